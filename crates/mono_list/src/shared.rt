@@ -2,12 +2,12 @@ ghost use Rattle.std.specs.Prelude.{◌≡◌, IfOk};
 
 use std::alloc::{AllocError, Global};
 use std::marker::Model;
-use std::rc::Rc;
+use std::sync::Arc;
 
 /// A value that several owners share and none changes. Contracts see it as the value.
 #[derive(Drop)]
 pub struct Shared<T> {
-    inner: Rc<T>,
+    inner: Arc<T>,
 }
 
 impl<T> Model for Shared<T> {
@@ -32,7 +32,7 @@ impl<T: Drop> Shared<T> {
     pub fn new(alloc: Global, value: T) -> Result<Shared<T>, AllocError>
         ensures { IfOk result (λ s. s ≡ value) }
     {
-        let inner = Rc::new(alloc, value)?;
+        let inner = Arc::new(alloc, value)?;
         Ok(Shared { inner })
     }
 
@@ -40,7 +40,7 @@ impl<T: Drop> Shared<T> {
     pub fn share(&self) -> Result<Shared<T>, AllocError>
         ensures { IfOk result (λ s. s ≡ self.now) }
     {
-        let inner = self.inner.clone()?;
+        let inner = Arc::try_clone(&self.inner)?;
         Ok(Shared { inner })
     }
 }

@@ -4,7 +4,7 @@ use mono_list::Shared;
 use sqlite_items::{Boxed, Items};
 use std::marker::Model;
 
-/// A type.
+/// A type. Its parts are shared, so that a part of it is a type of its own with nothing copied.
 #[cycle(ty)]
 #[derive(Drop)]
 pub struct Ty {
@@ -19,7 +19,9 @@ pub enum TyKind {
     Bool,
     Str,
     Nil,
-    Fun(Items<Ty>, Boxed<Ty>),
+    /// The parameters' types and the result's.
+    Fun(Items<Shared<Ty>>, Shared<Ty>),
+    /// The fields, in the byte order of their names.
     Obj(Items<Field>),
 }
 
@@ -27,7 +29,7 @@ pub enum TyKind {
 #[derive(Drop)]
 pub struct Field {
     pub name: Name,
-    pub ty: Ty,
+    pub ty: Shared<Ty>,
 }
 
 impl Model for Ty {
