@@ -1,0 +1,4 @@
+pub mod Answers
+pub mod Fakes
+pub mod Faults
+pub mod Puts
