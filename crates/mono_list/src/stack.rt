@@ -1,4 +1,5 @@
-ghost use Rattle.std.specs.Prelude.{◌≡◌, [], ◌∷◌, ◌++◌, ◌≤◌, length, vec_len, reverse, take, drop, IfOk, MatchOption, OnOk, OnErr};
+ghost use Rattle.std.specs.Prelude.{◌≡◌, [], ◌∷◌, ◌++◌, ◌≤◌, length, vec_len, reverse, take, drop, slice_get, slice_set, IfOk, MatchOption, OnOk, OnErr};
+ghost use Rattle.std.specs.Option.{option_copied};
 
 use sqlite_items::Items;
 use std::alloc::{AllocError, Global};
@@ -45,6 +46,13 @@ impl<T> Stack<T> {
         self.items.as_slice()
     }
 
+    /// The element that stands so far below the top.
+    pub fn peek(&self, at: u64) -> Option<&T>
+        ensures { option_copied result ≡ slice_get self.now at }
+    {
+        element_back(self.items.as_slice(), at)
+    }
+
     /// Takes the top off.
     pub fn pop(&mut self) -> Option<T>
         ensures { MatchOption result ((self.old ≡ []) × (self.new ≡ [])) (λ top. self.old ≡ top ∷ self.new) }
@@ -54,6 +62,13 @@ impl<T> Stack<T> {
 }
 
 impl<T: Drop> Stack<T> {
+    /// Puts another element so far below the top, where one stands there.
+    pub fn put(&mut self, at: u64, item: T)
+        ensures { self.new ≡ slice_set self.old at item }
+    {
+        put_back(&mut self.items, at, item);
+    }
+
     /// Puts an element on top.
     pub fn push(&mut self, item: T) -> Result<(), AllocError>
         ensures ok { OnOk result (self.new ≡ item ∷ self.old) }
@@ -103,4 +118,25 @@ fn cut_off<T>(items: &mut Vec<T>, n: usize) -> Result<Vec<T>, AllocError>
 {
     let at = items.len() - n;
     items.split_off(at)
+}
+
+/// The element that stands so far before the last.
+fn element_back<T>(items: &[T], at: u64) -> Option<&T>
+    ensures { option_copied result ≡ slice_get (reverse items.now) at }
+{
+    if at < items.len() as u64 {
+        items.get(items.len() - 1 - at as usize)
+    } else {
+        None
+    }
+}
+
+/// Puts another element so far before the last, where one stands there.
+fn put_back<T: Drop>(items: &mut Vec<T>, at: u64, item: T)
+    ensures { reverse items.new.items ≡ slice_set (reverse items.old.items) at item }
+{
+    if at < items.len() as u64 {
+        let place = items.len() - 1 - at as usize;
+        items[place] = item;
+    }
 }

@@ -3,6 +3,15 @@
 //! greatest common lower bound.
 #![tactic(auto)]
 
+mod copy;
+pub mod laws;
+mod meeting;
+mod precision;
+mod statics;
+mod text;
+
+pub use copy::{copy_type, same_type};
+pub use meeting::meet;
 pub use mono_syntax::{
     Ann, AnnForm, Arg, Block, BlockNames, Branch, CastBlock, CastBranch, CastClass, CastExpr,
     CastExprKind, CastFunction, CastScript, CastStmt, CastStmtKind, ClassDef, ClassNo, Expr,
@@ -10,3 +19,9 @@ pub use mono_syntax::{
     NamedType, Op, Param, Place, Reason, Refusal, Scoped, Script, Site, Stmt, StmtKind, StmtList,
     Ty, TyAt, TyKind, TypeNo, Typed, TypedName, Val, Value, Word,
 };
+pub use precision::precise;
+pub use statics::is_static;
+pub use text::{type_bytes, type_text};
+
+#[cfg(test)]
+mod tests;

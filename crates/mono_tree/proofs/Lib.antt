@@ -1,0 +1,14 @@
+pub mod Order
+pub mod Layers
+pub mod PreciseTurns
+pub mod Meets
+pub mod MeetMade
+pub mod MeetTurns
+pub mod MeetAnswers
+pub mod MeetLaws
+pub mod TextTurns
+pub mod TextUtf8
+pub mod PreciseTest
+pub mod TypeLaws
+pub mod AsComputed
+pub mod Names

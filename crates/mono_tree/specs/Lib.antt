@@ -1,0 +1,11 @@
+pub mod FieldNames
+pub mod IsType
+pub mod Precise
+pub mod Precision
+pub mod Meet
+pub mod Static
+pub mod CastScripts
+pub mod Sites
+pub mod BodyEnds
+pub mod WellTyped
+pub mod TypeText

@@ -1,0 +1,27 @@
+//! What holds of precision and meets whatever the types.
+ghost use Rattle.std.specs.Prelude.{◌≡◌, ◌↔◌, Some, None, option_and_then};
+ghost use Rattle.mono_syntax.specs.Ty.{Ty, dyn};
+ghost use Rattle.mono_tree.specs.Meet.{IsMeet, AreApart, meet, meet_three};
+ghost use Rattle.mono_tree.specs.Precise.{Precise};
+
+/// Precision is a partial order with `Dyn` above every type. Two types with a common lower bound have a meet, which is
+/// the greatest one, and meets are commutative, idempotent and associative.
+pub fn meet_laws()
+    ensures reflexive { (a : Ty) → Precise a a }
+    ensures antisymmetric { (a b : Ty) → Precise a b → Precise b a → a ≡ b }
+    ensures transitive { (a b c : Ty) → Precise a b → Precise b c → Precise a c }
+    ensures top { (a : Ty) → Precise a dyn }
+
+    // The computed `meet`, of which the laws below speak, is the greatest common lower bound.
+    ensures greatest { (a b m : Ty) → (meet a b ≡ Some m) ↔ IsMeet m a b }
+    ensures apart { (a b : Ty) → (meet a b ≡ None) ↔ AreApart a b }
+    ensures exists { (x a b : Ty) → Precise x a → Precise x b → (m : Ty) × IsMeet m a b }
+
+    ensures commutative { (a b : Ty) → meet a b ≡ meet b a }
+    ensures idempotent { (a : Ty) → meet a a ≡ Some a }
+    ensures associative { (a b c : Ty) → meet_three a b c ≡ option_and_then (λ m. meet a m) (meet b c) }
+
+    // All groupings of three types, in all their orders, give one type, or all of them fail.
+    ensures swapped { (a b c : Ty) → meet_three a b c ≡ meet_three b a c }
+    ensures turned { (a b c : Ty) → meet_three a b c ≡ meet_three b c a }
+{}
