@@ -1,0 +1,14 @@
+pub mod Maps
+pub mod Heap
+pub mod Fits
+pub mod Operators
+pub mod Obligations
+pub mod Rows
+pub mod Cells
+pub mod Calls
+pub mod Step
+pub mod HeapTyping
+pub mod WorkTyping
+pub mod Typing
+pub mod Safety
+pub mod Seeded
