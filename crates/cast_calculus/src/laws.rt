@@ -1,0 +1,15 @@
+ghost use Rattle.std.specs.Prelude.{ℕ, ◌≤◌, List};
+ghost use Rattle.mono_syntax.specs.declared.cast.CastScript.{CastScript};
+ghost use Rattle.mono_tree.specs.WellTyped.{IsWellTypedProgram};
+ghost use Rattle.cast_machine.specs.declared.data.Settings.{Settings};
+ghost use Rattle.cast_machine.specs.Step.{run_of};
+ghost use Rattle.cast_machine.specs.Safety.{IsSafe};
+
+/// Every configuration of a run of a well-typed script, whatever the settings and the picks, is well typed, isn't stuck
+/// and holds no blame of a cast that only loses precision; one pick more leaves every field's type at least as precise,
+/// and where a cast goes its value has the target type.
+pub fn safe_runs()
+    ensures { (p : CastScript) → IsWellTypedProgram p → (s : Settings) → 1 ≤ s.fuel → (order : List ℕ) → IsSafe p (run_of p s order) }
+{
+    cast_machine::laws::safe_runs()
+}
