@@ -1,0 +1,12 @@
+pub mod Numbers
+pub mod Lexing
+pub mod Sums
+pub mod Scripts
+pub mod Spans
+pub mod WordLaws
+pub mod TokenLaws
+pub mod LineLaws
+pub mod AtomLaws
+pub mod GrammarLaws
+pub mod ScriptLaws
+pub mod FirstTreeLaws
