@@ -1,0 +1,11 @@
+pub mod Values
+pub mod BaseLaws
+pub mod InsertLaws
+pub mod InsertAgain
+pub mod LineLaws
+pub mod NameRuns
+pub mod NameLaws
+pub mod FineLaws
+pub mod TypedLaws
+pub mod ScriptLaws
+pub mod UniqueLaws

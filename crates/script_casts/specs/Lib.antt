@@ -1,0 +1,11 @@
+pub mod BaseTypes
+pub mod KnownNames
+pub mod SourcePlaces
+pub mod Inserted
+pub mod Lines
+pub mod BuiltForms
+pub mod BlockNames
+pub mod ScopeFaults
+pub mod Elaborates
+pub mod TypingFaults
+pub mod HasCasts
