@@ -1,0 +1,70 @@
+use mono_syntax::{LoadFault, Reason, Refusal};
+use py_lexer::{Token, TokenKind, decode, lex};
+use std::alloc::{AllocError, Global};
+
+/// The tokens of the bytes, or their refusal.
+pub fn answer(alloc: Global, bytes: &[u8]) -> Result<String, AllocError> {
+    if bytes.len() > 1048576 {
+        return String::from_str(alloc, "too long");
+    }
+    match decode(bytes) {
+        Err(refusal) => refused(alloc, refusal),
+        Ok(text) => match lex(alloc, text) {
+            Ok(tokens) => shown(alloc, tokens.as_slice()),
+            Err(LoadFault::Refused(refusal)) => refused(alloc, refusal),
+            Err(LoadFault::Memory) => Err(AllocError),
+        },
+    }
+}
+
+fn reason(reason: Reason) -> &'static str {
+    match reason {
+        Reason::BadChar => "bad character",
+        Reason::Tab => "tab in indentation",
+        Reason::BadDedent => "bad dedent",
+        Reason::OpenBracket => "open bracket",
+        Reason::BadName => "bad name",
+        Reason::BadNumber => "bad number",
+        Reason::BadString => "bad string",
+        _ => "another reason",
+    }
+}
+
+fn refused(alloc: Global, refusal: Refusal) -> Result<String, AllocError> {
+    let line = refusal.place.line;
+    let column = refusal.place.column;
+    let why = reason(refusal.reason);
+    format!(in alloc; "refused {line}:{column}: {why}")
+}
+
+fn letter(what: TokenKind) -> &'static str {
+    match what {
+        TokenKind::Name => "N",
+        TokenKind::Reserved => "R",
+        TokenKind::Number => "#",
+        TokenKind::Str => "S",
+        TokenKind::Sign => "O",
+        TokenKind::Newline => "L",
+        TokenKind::Indent => "I",
+        TokenKind::Dedent => "D",
+        TokenKind::End => "E",
+    }
+}
+
+/// Each token as its kind's letter, its slice and its place.
+fn shown(alloc: Global, tokens: &[Token]) -> Result<String, AllocError> {
+    let mut text = String::new(alloc);
+    for token in tokens {
+        let kind = letter(token.what);
+        let from = token.from;
+        let to = token.to;
+        let line = token.place.line;
+        let column = token.place.column;
+        let one = format!(in alloc; "{kind}{from}-{to}@{line}:{column}")?;
+        if !text.is_empty() {
+            text.push(' ')?;
+        }
+        text.push_str(one.as_str())?;
+    }
+    Ok(text)
+}

@@ -1,0 +1,11 @@
+pub mod Seams
+pub mod Spots
+pub mod Fronts
+pub mod Strings
+pub mod Signs
+pub mod Unique
+pub mod Progress
+pub mod Faultless
+pub mod Stops
+pub mod Firsts
+pub mod Outcome

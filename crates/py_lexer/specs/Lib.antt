@@ -1,0 +1,9 @@
+pub mod Bounds
+pub mod Characters
+pub mod Pieces
+pub mod Layout
+pub mod Faults
+pub mod Lexes
+pub mod Reading
+pub mod Scanning
+pub mod Scans
