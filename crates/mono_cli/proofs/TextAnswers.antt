@@ -1,0 +1,33 @@
+-- The answer to a text.
+use Rattle.std.proofs.Common.{ℕ, ◌≡◌, ◌<◌, List, length, ◌⊎◌, inl, inr, arith, refl, ap, ◌∙◌}
+use Rattle.mono_syntax.specs.declared.cast.CastScript.{CastScript}
+use Rattle.mono_syntax.specs.declared.refusal.LoadFault.TheVariants.{Refused, Memory}
+use Rattle.mono_syntax.specs.declared.refusal.Refusal.{Refusal}
+use Rattle.mono_cli.specs.Answer.{Answer, refused}
+use Rattle.mono_cli.specs.Scripts.{IsFirstRefusal, long, no_tree, faulty, too_long, IsProgramOf, IsRunAnswer, AnswersText}
+
+pub run_answers : (text : List ℕ) (p : CastScript) → IsProgramOf text p → ((r : Refusal) → IsFirstRefusal text r → ⊥) →
+    (a : Answer) → IsRunAnswer p a → AnswersText text a
+run_answers text p i n a h = record { refuses = λ r f. absurd (n r f); answers = inr (record { program = p; is = i; runs = h }) }
+
+same_refusal : (r q : Refusal) → (Refused r ≡ Refused q) ⊎ (Refused r ≡ Memory) → r ≡ q
+same_refusal r q (inl e) = cc
+same_refusal r q (inr e) = absurd cc
+
+pub refusal_answers : (text : List ℕ) (r : Refusal) → IsFirstRefusal text r → ((q : Refusal) → IsFirstRefusal text q → (Refused r ≡ Refused q) ⊎ (Refused r ≡ Memory)) →
+    (a : Answer) → a ≡ refused r → AnswersText text a
+refusal_answers text r i only a e = record {
+  refuses = λ q f. e ∙ ap refused (same_refusal r q (only q f));
+  answers = inl (record { refusal = r; first = i; says = e });
+}
+
+long_only : (text : List ℕ) → 1048576 < length text → (q : Refusal) → IsFirstRefusal text q → too_long ≡ q
+long_only text l q (long b) = refl
+long_only text l q (no_tree b n) = absurd (omega (arith, l, b))
+long_only text l q (faulty u k b v f) = absurd (omega (arith, l, b))
+
+pub long_answers : (text : List ℕ) → 1048576 < length text → (a : Answer) → a ≡ refused too_long → AnswersText text a
+long_answers text l a e = record {
+  refuses = λ q f. e ∙ ap refused (long_only text l q f);
+  answers = inl (record { refusal = too_long; first = long l; says = e });
+}

@@ -1,0 +1,30 @@
+-- The answers of a command.
+use Rattle.std.specs.Prelude.{ℕ, List, [], codes}
+use Rattle.mono_syntax.specs.declared.cast.CastScript.{CastScript}
+use Rattle.mono_syntax.specs.declared.refusal.Refusal.{Refusal}
+use Rattle.mono_syntax.specs.declared.value.Val.{Val}
+use Rattle.cast_machine.specs.declared.data.End.{End}
+use Rattle.mono_cli.specs.Texts.{rendered}
+use Rattle.mono_cli.specs.Ends.{placed_line, reason_text, end_text, status_of_end}
+
+-- a status, the bytes for out and the bytes for err
+pub record Answer : Type 0 where
+  pub status : ℕ
+  pub out : List ℕ
+  pub err : List ℕ
+
+-- the answer to words that are no command line
+abbrev pub usage : Answer
+usage = record { status = 2; out = []; err = codes "usage: mono check|show|casts|types|step|run|stress [OPTIONS] FILE\n" }
+
+-- the answer to a fetch that failed
+abbrev pub unfetched : Answer
+unfetched = record { status = 6; out = []; err = codes "error: script not fetched\n" }
+
+-- the answer to a script that is refused
+abbrev pub refused : Refusal → Answer
+refused r = record { status = 1; out = []; err = placed_line (codes "refused ") r.place (reason_text r.reason) }
+
+-- the answer to a script that printed these lines and came to this end
+abbrev pub ended : CastScript → List (List Val) → End → Answer
+ended p lines e = record { status = status_of_end e; out = rendered p.scoped.script.items lines; err = end_text p.sites e }

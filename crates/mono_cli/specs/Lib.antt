@@ -1,0 +1,8 @@
+pub mod Texts
+pub mod Ends
+pub mod Words
+pub mod Answer
+pub mod Showing
+pub mod Scripts
+pub mod Commands
+pub mod Faults

@@ -1,0 +1,68 @@
+ghost use Rattle.std.specs.Prelude.{◌≡◌, ◌≤◌, length, IfOk};
+ghost use Rattle.mono_tree.specs.WellTyped.{IsWellTypedProgram};
+ghost use Rattle.mono_cli.specs.Scripts.{RunsTo, AnswersText, IsRunAnswer};
+ghost use Rattle.mono_cli.specs.Showing.{Shows};
+
+use crate::ends::{end_text, status_of_end};
+use crate::load::{load, show_refusal};
+use crate::show::show_run;
+use cast_calculus::{Config, Settings};
+use mono_io::Sink;
+use mono_tree::{CastScript, LoadFault};
+use std::alloc::{AllocError, Global};
+
+const DEFAULTS: Settings = Settings {
+    fuel: 10_000_000,
+    heap: 262_144,
+    print: 65_536,
+};
+
+const DEFAULT_SEED: u64 = 0;
+
+/// The run of a script to its end.
+fn run(alloc: Global, script: &CastScript) -> Result<Config, AllocError>
+    requires { IsWellTypedProgram script.now }
+    ensures { IfOk result (λ last. RunsTo script.now last) }
+{
+    let config = Config::new(alloc, script, DEFAULTS)?;
+    config.run_by_seed(alloc, script, DEFAULT_SEED)
+}
+
+/// Runs a script, and then shows what it printed and how it ended.
+fn show_script<K: Sink, E: Sink>(alloc: Global, script: &CastScript, out: &mut K, err: &mut E) -> u8
+    requires { IsWellTypedProgram script.now }
+    ensures { Shows (λ a. IsRunAnswer script.now a) (K.told out.old) (K.told out.new) (K.faults out.old) (K.faults out.new)
+        (E.told err.old) (E.told err.new) (E.faults err.old) (E.faults err.new) result }
+{
+    let Ok(config) = run(alloc, script) else {
+        return 8;
+    };
+    let shown = config.observation();
+    let end = shown.end.unwrap();
+    let Ok(line) = end_text(alloc, script.sites.as_slice(), end) else {
+        return 8;
+    };
+    let items = script.scoped.get().script.get().items.get().as_slice();
+    show_run(
+        alloc,
+        status_of_end(end),
+        items,
+        shown.lines.as_slice(),
+        line.as_str(),
+        out,
+        err,
+    )
+}
+
+/// Shows what the bytes of a script come to.
+pub fn show_text<K: Sink, E: Sink>(alloc: Global, text: &[u8], out: &mut K, err: &mut E) -> u8
+    requires { length text.now ≤ 1048576 }
+    ensures { Shows (λ a. AnswersText text.now a) (K.told out.old) (K.told out.new) (K.faults out.old) (K.faults out.new)
+        (E.told err.old) (E.told err.new) (E.faults err.old) (E.faults err.new) result }
+{
+    match load(alloc, text) {
+        Ok(script) => show_script(alloc, &script, out, err),
+        Err(LoadFault::Refused(refusal)) => show_refusal(alloc, refusal, out, err),
+        Err(LoadFault::Memory) => 8,
+    }
+}

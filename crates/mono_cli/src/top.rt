@@ -1,0 +1,95 @@
+ghost use Rattle.std.specs.Prelude.{◌≡◌, ◌≢◌, ◌<◌, ◌≤◌, ◌⊎◌, map, string_bytes, List, ℕ};
+ghost use Rattle.mono_syntax.specs.declared.refusal.Refusal.{Refusal};
+ghost use Rattle.mono_io.specs.Faults.{Rose};
+ghost use Rattle.mono_cli.specs.Words.{file_of};
+ghost use Rattle.mono_cli.specs.Commands.{IsAnswer};
+ghost use Rattle.mono_cli.specs.Answer.{refused};
+ghost use Rattle.mono_cli.specs.Scripts.{IsFirstRefusal};
+ghost use Rattle.mono_cli.specs.Showing.{Shows, ShowsAll};
+
+use crate::load::show_refusal;
+use crate::run::show_text;
+use crate::show::show_line;
+use crate::words::file_of;
+use mono_io::{Shelf, ShelfFault, Sink};
+use mono_tree::{Place, Reason, Refusal};
+use std::alloc::Global;
+
+const LIMIT: u64 = 1_048_576;
+
+const TOO_LONG: Refusal = Refusal {
+    place: Place { line: 1, column: 1 },
+    reason: Reason::TooLong,
+};
+
+fn answer<H: Shelf, K: Sink, E: Sink>(
+    alloc: Global,
+    words: &[String],
+    shelf: &mut H,
+    out: &mut K,
+    err: &mut E,
+) -> u8
+    ensures { Shows (λ a. IsAnswer (file_of (map (λ w. string_bytes w) words.now)) (H.told shelf.old) (H.faults shelf.old) (H.faults shelf.new) a)
+        (K.told out.old) (K.told out.new) (K.faults out.old) (K.faults out.new)
+        (E.told err.old) (E.told err.new) (E.faults err.old) (E.faults err.new) result }
+{
+    let Some(file) = file_of(words) else {
+        return show_line(
+            2,
+            "usage: mono check|show|casts|types|step|run|stress [OPTIONS] FILE\n",
+            out,
+            err,
+        );
+    };
+    match shelf.fetch(alloc, file, LIMIT) {
+        Ok(bytes) => show_text(alloc, bytes.as_slice(), out, err),
+        Err(ShelfFault::TooLong) => show_refusal(alloc, TOO_LONG, out, err),
+        Err(ShelfFault::Failed) => show_line(6, "error: script not fetched\n", out, err),
+        Err(ShelfFault::Memory) => 8,
+    }
+}
+
+/// Does what a command asks for, on one host thread, and gives its status: the words after the program's name come with
+/// the shelf that has the script and the sinks for output and for the err line. The command is `step FILE`.
+///
+/// The status is 0 for a run that came to its end, 1 for a refused script, 2 for words that are no command, 3 for a blame,
+/// 4 for another error of the run, 5 for a limit, 6 for a fetch that failed, 7 for a put that failed, and 8 where there
+/// was no memory.
+pub fn plain_main<H: Shelf, K: Sink, E: Sink>(
+    alloc: Global,
+    words: &[String],
+    shelf: &mut H,
+    out: &mut K,
+    err: &mut E,
+) -> u8
+    // What is put is the answer of the language's rules to the script's bytes, or a part of it. The answer is a refusal
+    // exactly where the bytes have one; else it is what their run in the seed's order shows, and every run of them is safe.
+    ensures answers { Shows (λ a. IsAnswer (file_of (map (λ w. string_bytes w) words.now)) (H.told shelf.old) (H.faults shelf.old) (H.faults shelf.new) a)
+        (K.told out.old) (K.told out.new) (K.faults out.old) (K.faults out.new)
+        (E.told err.old) (E.told err.new) (E.faults err.old) (E.faults err.new) result }
+
+    // A script is refused exactly where its told bytes have a refusal.
+    ensures refuses { (file text : List ℕ) (r : Refusal) → file_of (map (λ w. string_bytes w) words.now) ≡ Some file → H.told shelf.old file ≡ Some text →
+        (Rose (H.faults shelf.old) (H.faults shelf.new) → ⊥) → IsFirstRefusal text r →
+        Shows (λ a. a ≡ refused r) (K.told out.old) (K.told out.new) (K.faults out.old) (K.faults out.new)
+        (E.told err.old) (E.told err.new) (E.faults err.old) (E.faults err.new) result }
+    ensures refused { (file text : List ℕ) → file_of (map (λ w. string_bytes w) words.now) ≡ Some file → H.told shelf.old file ≡ Some text →
+        result ≡ 1 → (r : Refusal) × IsFirstRefusal text r }
+
+    // A status from 0 to 6 says that all of the answer was put.
+    ensures whole { result ≤ 6 → ShowsAll (λ a. IsAnswer (file_of (map (λ w. string_bytes w) words.now)) (H.told shelf.old) (H.faults shelf.old) (H.faults shelf.new) a)
+        (K.told out.old) (K.told out.new) (E.told err.old) (E.told err.new) result }
+
+    // Where no count of faults rose all of the answer was put, unless there was no memory.
+    ensures complete { (Rose (H.faults shelf.old) (H.faults shelf.new) → ⊥) → (Rose (K.faults out.old) (K.faults out.new) → ⊥) →
+        (Rose (E.faults err.old) (E.faults err.new) → ⊥) → result ≢ 8 →
+        ShowsAll (λ a. IsAnswer (file_of (map (λ w. string_bytes w) words.now)) (H.told shelf.old) (H.faults shelf.old) (H.faults shelf.new) a)
+        (K.told out.old) (K.told out.new) (E.told err.old) (E.told err.new) result }
+
+    // When the other statuses come.
+    ensures failed { result ≡ 7 → Rose (K.faults out.old) (K.faults out.new) ⊎ Rose (E.faults err.old) (E.faults err.new) }
+    ensures memory { result ≡ 8 → E.told err.new ≡ E.told err.old }
+    ensures most { result ≤ 8 }
+{
+    answer(alloc, words, shelf, out, err)
+}
