@@ -20,7 +20,7 @@ use Rattle.cast_machine.specs.HeapTyping.{AreTyped}
 use Rattle.cast_machine.specs.Typing.{IsWellTyped, around, IsWellTypedFrame, IsWellTypedState, result_type, results_of}
 use Rattle.cast_machine.specs.WorkTyping.{LeaveUse, IsWellTypedTop}
 use Rattle.cast_machine.proofs.Progress.{not_stuck}
-use Rattle.cast_calculus.specs.Runnable.{waits, top_runs, state_runs, steps_from, able_threads}
+use Rattle.cast_calculus.specs.Runnable.{waits, top_runs, state_runs, thread_runs, can_step, steps_from, able_threads}
 
 -- ---- a running thread that is taken out had no result
 
@@ -154,3 +154,11 @@ module _ (p : CastScript) (pok : IsWellTypedProgram p) (c : Configuration) (ok :
 
   pub able_same : runnable_threads p c ≡ able_threads c
   able_same = from_same c.threads 0 (λ k th e. subst (λ (m : ℕ). slice_get c.threads m ≡ Some th) (omega arith) e)
+
+  place_same : (t : ℕ) (o : Option Thread) → slice_get c.threads t ≡ o → can_step c t ≡ is_runnable p c t
+  unfolding step_of
+  place_same t None e = ap (thread_runs c) e ∙ sym (ap (λ (o : Option Thread). is_some (step_at p t o c)) e)
+  place_same t (Some th) e = ap (thread_runs c) e ∙ sym (thread_same p pok c ok t th e)
+
+  pub step_same : (t : ℕ) → can_step c t ≡ is_runnable p c t
+  step_same t = place_same t (slice_get c.threads t) refl

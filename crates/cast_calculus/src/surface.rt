@@ -1,5 +1,7 @@
 ghost use Rattle.std.specs.Prelude.{◌≡◌, IfOk};
-ghost use Rattle.cast_machine.specs.Step.{picked, observed};
+ghost use Rattle.mono_tree.specs.WellTyped.{IsWellTypedProgram};
+ghost use Rattle.cast_machine.specs.Step.{is_runnable, picked, observed};
+ghost use Rattle.cast_machine.specs.Typing.{IsWellTyped};
 ghost use Rattle.cast_calculus.specs.Runnable.{can_step};
 
 use crate::config::Config;
@@ -8,8 +10,12 @@ use mono_syntax::CastScript;
 use std::alloc::{AllocError, Global};
 
 /// Whether a thread has a step: it is there, isn't over, and doesn't wait for another thread.
+#[tactic(auto, using(crate::proofs::Able::step_same))]
 pub fn runnable(c: &Config, thread: u32) -> bool
-    ensures { result ≡ can_step c.now thread }
+    ensures can { result ≡ can_step c.now thread }
+
+    // In every configuration of a run of a well-typed script that is to have a step.
+    ensures steps { (p : CastScript) → IsWellTypedProgram p → IsWellTyped p c.now → result ≡ is_runnable p c.now thread }
 {
     c.can_step(thread)
 }
