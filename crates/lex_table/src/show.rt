@@ -37,30 +37,30 @@ fn refused(alloc: Global, refusal: Refusal) -> Result<String, AllocError> {
     format!(in alloc; "refused {line}:{column}: {why}")
 }
 
-fn letter(what: TokenKind) -> &'static str {
+fn kind_name(what: TokenKind) -> &'static str {
     match what {
-        TokenKind::Name => "N",
-        TokenKind::Reserved => "R",
-        TokenKind::Number => "#",
-        TokenKind::Str => "S",
-        TokenKind::Sign => "O",
-        TokenKind::Newline => "L",
-        TokenKind::Indent => "I",
-        TokenKind::Dedent => "D",
-        TokenKind::End => "E",
+        TokenKind::Name => "name",
+        TokenKind::Reserved => "reserved",
+        TokenKind::Number => "number",
+        TokenKind::Str => "string",
+        TokenKind::Sign => "sign",
+        TokenKind::Newline => "newline",
+        TokenKind::Indent => "indent",
+        TokenKind::Dedent => "dedent",
+        TokenKind::End => "end",
     }
 }
 
-/// Each token as its kind's letter, its slice and its place.
+/// Each token as its kind, its slice and its place.
 fn shown(alloc: Global, tokens: &[Token]) -> Result<String, AllocError> {
     let mut text = String::new(alloc);
     for token in tokens {
-        let kind = letter(token.what);
+        let kind = kind_name(token.what);
         let from = token.from;
         let to = token.to;
         let line = token.place.line;
         let column = token.place.column;
-        let one = format!(in alloc; "{kind}{from}-{to}@{line}:{column}")?;
+        let one = format!(in alloc; "{kind}:{from}-{to}@{line}:{column}")?;
         if !text.is_empty() {
             text.push(' ')?;
         }
