@@ -1,10 +1,4 @@
-pub mod Opened
-pub mod TypeTests
-pub mod HeapWrites
-pub mod Names
-pub mod Taken
 pub mod Fresh
 pub mod FueledLists
 pub mod Able
 pub mod Seeding
-pub mod Pushed

@@ -1,23 +1,22 @@
 ghost use Rattle.std.specs.Prelude.{◌≡◌, [], ◌∷◌, ◌++◌, ◌+◌, ◌<◌, ◌≤◌, ◌^◌, min, length, nat_lt, IfOk, is_some, slice_get, slice_set, None, Some};
+ghost use Rattle.std.specs.Option.{option_copied};
 ghost use Rattle.mono_tree.specs.CastScripts.{target_of};
+ghost use Rattle.cast_machine.specs.Heap.{cell_at};
 ghost use Rattle.cast_machine.specs.Rows.{fit_top};
 ghost use Rattle.cast_machine.specs.Calls.{take_args, print_args, words_of};
 ghost use Rattle.cast_machine.specs.Step.{act, first_end, changed, frame_items, frames_items, items_of, fueled, placed, counted, heeds, moved, top_step, thread_step, step_of, taken_out, start_of, main_frame, observed};
 ghost use Rattle.cast_calculus.specs.Fueled.{IsFueled, AreFueled, IsBegun, IsFresh};
 ghost use Rattle.cast_calculus.specs.Runnable.{waits, state_runs, able_threads, can_step};
 
-use crate::calls::{
+use calculus_calls::{
     all_finished, begin, call, enter, fall, finished, join, leave, new_object, take_args, unbound,
 };
-use crate::cells::{Demand, Writing, obligation, read, write};
-use crate::copies::{copy_lines, copy_threads};
-use crate::fits::{fit_at, fit_top};
-use crate::heap::Heap;
-use crate::rows::{
-    begin_turn, binary, block, branch, eval, fails, forget, goes, neg, not, short, statement_row,
-    store, turn,
+use calculus_cells::{Demand, Writing, fit_at, fit_top, obligation, read, write};
+use calculus_data::{Heap, copy_lines, copy_threads, fails, goes};
+use calculus_rows::{
+    begin_turn, binary, block, branch, eval, forget, neg, not, short, statement_row, store, turn,
 };
-use cast_machine::{Change, End, Frame, Observation, Outcome, Settings, State, Thread, Work};
+use cast_machine::{Cell, Change, End, Frame, Observation, Outcome, Settings, State, Thread, Work};
 use mono_list::{Shared, Slots, Stack};
 use mono_syntax::{CastScript, Ty};
 use sqlite_items::Items;
@@ -68,7 +67,7 @@ fn frame_items(frame: &Frame) -> u64
 }
 
 /// The items of some frames, with so many counted before them.
-#[tactic(auto, using(crate::proofs::Pushed::counting))]
+#[tactic(auto, using(calculus_data::proofs::Pushed::counting))]
 fn more_items(first: u64, below: &Stack<Frame>) -> u64
     requires { first ≤ 16384 + 1 }
     ensures { result ≡ min (first + frames_items below.now) (16384 + 1) }
@@ -645,5 +644,13 @@ impl Config {
         ensures { result.now ≡ observed self.now }
     {
         &self.observation
+    }
+
+    /// The cell of a field of the object at an address, where there is one: its recorded type and its value. An address
+    /// is the number of cells of the objects before.
+    pub fn cell(&self, base: u32, field: &[u8]) -> Option<&Cell>
+        ensures { option_copied result ≡ cell_at self.now.heap base field.now }
+    {
+        self.heap.cell(base, field)
     }
 }

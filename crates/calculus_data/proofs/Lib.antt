@@ -1,0 +1,5 @@
+pub mod TypeTests
+pub mod HeapWrites
+pub mod Starts
+pub mod Taken
+pub mod Pushed

@@ -1,5 +1,0 @@
-use Rattle.std.proofs.Common.{length}
-use Rattle.cast_calculus.proofs.calls.+push_arg_items.Given as goal
-
-abbrev pub decreases-push_arg_items : goal.decreases-push_arg_items
-decreases-push_arg_items l = length l.sites.now

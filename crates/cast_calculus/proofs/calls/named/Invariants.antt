@@ -1,8 +1,0 @@
-use Rattle.std.proofs.Common.{◌≡◌, ◌++◌}
-use Rattle.std.specs.Slice.Iter.{iter_rest}
-use Rattle.std.specs.Iterator.Adapters.{zip_first, zip_second}
-use Rattle.cast_machine.specs.Calls.{named}
-use Rattle.cast_calculus.proofs.calls.named.Given as goal
-
-abbrev pub invariant-loop-param : goal.invariant-loop-param
-invariant-loop-param l = l.given ++ named (iter_rest (zip_first l.param-iterator)) (iter_rest (zip_second l.param-iterator)) ≡ named l.params l.args

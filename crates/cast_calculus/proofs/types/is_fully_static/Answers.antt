@@ -1,5 +1,0 @@
-use Rattle.cast_calculus.proofs.TypeTests.{is_fully_static}
-use Rattle.cast_calculus.proofs.types.is_fully_static.Goals as goal
-
-pub returns : goal.returns
-returns c = is_fully_static c.is_static.result c.args.a.now c.is_static.ensures

@@ -1,8 +1,0 @@
--- Where the object at an address stands in the list of objects.
-use Rattle.std.specs.Prelude.{ℕ, ◌+◌, ◌-◌, [], ◌∷◌, Option, Some, None, nat_eq, nat_lt, if◌then◌else◌}
-use Rattle.cast_machine.specs.Heap.{Heap, size}
-
--- the place, counted from i
-abbrev pub object_place : ℕ → Heap → ℕ → Option ℕ
-object_place i [] a = None
-object_place i (o ∷ h) a = if nat_eq a 0 then Some i else (if nat_lt a (size o) then None else object_place (i + 1) h (a - size o))
