@@ -1,0 +1,13 @@
+pub mod Order
+pub mod Places
+pub mod Kept
+pub mod Weakest
+pub mod Examples
+pub mod FitAnswers
+pub mod OwnSteps
+pub mod Bounds
+pub mod Strengthening
+pub mod Beginning
+pub mod FitRuns
+pub mod FitLaws
+pub mod ExampleSteps
