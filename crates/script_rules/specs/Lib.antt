@@ -1,0 +1,4 @@
+pub mod Definitions
+pub mod Writes
+pub mod BlockNames
+pub mod Scoping

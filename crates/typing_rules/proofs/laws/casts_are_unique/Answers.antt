@@ -1,0 +1,5 @@
+use Rattle.typing_rules.proofs.UniqueLaws.{one_script}
+use Rattle.typing_rules.proofs.laws.casts_are_unique.Goals as goal
+
+pub returns : goal.returns
+returns c = one_script
