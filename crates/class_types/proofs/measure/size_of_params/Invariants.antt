@@ -1,0 +1,9 @@
+use Rattle.std.proofs.Common.{◌≡◌, drop}
+use Rattle.class_types.specs.Made.{look}
+use Rattle.class_types.specs.Measured.{nothing, params_onto}
+use Rattle.class_types.proofs.measure.size_of_params.Given as goal
+
+abbrev pub invariant-loop-param : goal.invariant-loop-param
+invariant-loop-param l =
+    let named = look l.names l.own l.stray in
+    params_onto named l.parts (drop l.param-index l.params) ≡ params_onto named nothing l.params

@@ -1,0 +1,16 @@
+pub mod Recursion
+pub mod Sizes
+pub mod FirstFault
+pub mod SourceParts
+pub mod WellFormed
+pub mod SizeFaults
+pub mod Known
+pub mod Made
+pub mod Placed
+pub mod Rounds
+pub mod Order
+pub mod Holds
+pub mod NewNames
+pub mod FoundFaults
+pub mod Leading
+pub mod Measured
