@@ -1,0 +1,26 @@
+use Rattle.std.proofs.Common.{List, [], ◌∷◌, take, sym, subst}
+use Rattle.mono_syntax.specs.declared.tree.FuncDef.{FuncDef}
+use Rattle.mono_syntax.specs.declared.tree.Script.{Script}
+use Rattle.script_rules.specs.Definitions.{functions_of}
+use Rattle.script_rules.specs.Scoping.{class_list}
+use Rattle.name_scope.specs.Typing.{AreTypable, FunctionsTyped}
+use Rattle.name_scope.proofs.TypedFunctionLaws.{functions_done, functions_left}
+use Rattle.name_scope.proofs.blocks.typed_functions.Goals as goal
+
+pub with_item-requires-clause-holds : goal.with_item-requires-clause-holds
+with_item-requires-clause-holds c = c.loop-item.invariant.done.keeps.holds
+
+pub with_item-requires-clause-typable : goal.with_item-requires-clause-typable
+with_item-requires-clause-typable c =
+    let left = functions_left (class_list c.args.known.script) c.args.items.now c.loop-item.item-index c.item-item.result c.loop-item-test.true c.item-item.is c.loop-item.invariant.left in
+    subst (λ (s : Script). AreTypable (class_list s) (functions_of (c.item-item.result ∷ []))) (sym c.loop-item.invariant.done.keeps.script) left.0
+
+pub loop-item-preserved : goal.loop-item-preserved
+loop-item-preserved c =
+    let left = functions_left (class_list c.args.known.script) c.args.items.now c.loop-item.item-index c.item-item.result c.loop-item-test.true c.item-item.is c.loop-item.invariant.left in
+    record {
+      done = subst (λ (l : List FuncDef). FunctionsTyped c.args.known l c.in_ok-state.state)
+          (functions_done c.args.items.now c.loop-item.item-index c.item-item.result c.loop-item-test.true c.item-item.is)
+          (c.in_ok-state.ensures c.args.known (functions_of (take c.loop-item.item-index c.args.items.now)) c.loop-item.invariant.done);
+      left = left.1;
+    }

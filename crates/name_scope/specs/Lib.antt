@@ -1,0 +1,9 @@
+pub mod Occurrences
+pub mod Rules
+pub mod NameRoles
+pub mod NameFaults
+pub mod ScopeFaults
+pub mod FoundFaults
+pub mod Table
+pub mod Bound
+pub mod Typing

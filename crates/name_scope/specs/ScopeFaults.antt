@@ -1,0 +1,43 @@
+-- What the names of a script are refused for, and what is accepted.
+use Rattle.std.specs.Prelude.{◌≡◌, ◌⊎◌, Result, Ok, Err}
+use Rattle.mono_syntax.specs.declared.leaf.Place.{Place}
+use Rattle.mono_syntax.specs.declared.refusal.LoadFault.{LoadFault}
+use Rattle.mono_syntax.specs.declared.refusal.LoadFault.TheVariants.{Refused, Memory}
+use Rattle.mono_syntax.specs.declared.refusal.Reason.{Reason}
+use Rattle.mono_syntax.specs.declared.refusal.Refusal.{Refusal}
+use Rattle.mono_syntax.specs.declared.script.Scoped.{Scoped}
+use Rattle.mono_syntax.specs.declared.tree.Script.{Script}
+use Rattle.script_rules.specs.Scoping.{class_list, IsScope}
+use Rattle.class_types.specs.FirstFault.{IsFirst, IsFaultless}
+use Rattle.class_types.specs.Recursion.{IsRecursive}
+use Rattle.class_types.specs.SizeFaults.{SizeFault}
+use Rattle.name_scope.specs.NameFaults.{NameFault}
+
+-- a fault of names, or a class that leads back to itself
+abbrev pub ScopeFault : Script → Place → Reason → Type 0
+ScopeFault s p r = NameFault s p r ⊎ IsRecursive (class_list s) p r
+
+-- nothing is wrong with the names, and nothing is too large
+pub record IsRight (s : Script) : Type 0 where
+  pub names : IsFaultless (ScopeFault s)
+  pub sizes : IsFaultless (SizeFault s)
+
+-- the script is refused so: for its first fault of names, and where there is none for its first fault of size
+pub data IsScopeRefusal (s : Script) : Refusal → Type 0 where
+  misnamed : {r : Refusal} → IsFirst (ScopeFault s) r → IsScopeRefusal s r
+  oversized : {r : Refusal} → IsFaultless (ScopeFault s) → IsFirst (SizeFault s) r → IsScopeRefusal s r
+
+-- the script is refused so, or there was no memory
+abbrev pub IsFault : Script → LoadFault → Type 0
+IsFault s (Refused r) = IsScopeRefusal s r
+IsFault s Memory = Unit {0}
+
+-- the answer is this refusal, or there was no memory
+abbrev pub Refuses : Result Scoped LoadFault → Refusal → Type 0
+Refuses (Ok d) r = ⊥
+Refuses (Err f) r = (f ≡ Refused r) ⊎ (f ≡ Memory)
+
+-- the answer is what the rules give, or there was no memory
+abbrev pub IsAnswer : Script → Result Scoped LoadFault → Type 0
+IsAnswer s (Ok d) = IsRight s × IsScope s d
+IsAnswer s (Err f) = IsFault s f
