@@ -1,165 +1,163 @@
--- A whole text: what is read is in the grammar, and what is in the grammar is read.
-use Rattle.std.proofs.Common.{ℕ, zero, suc, ◌+◌, ◌<◌, ◌≤◌, ◌≡◌, Bool, true, false, not, cond, List, [], ◌∷◌, ◌++◌, length, take, drop, replicate, Some, None, eqb, nat_lt, option_and_then, arith, refl, ap, ◌∙◌, sym, subst}
-use Rattle.std.proofs.lemmas.List.{take_at, length-append}
-use Rattle.std.proofs.Math.Seq.{drop-append-add}
-use Rattle.std.proofs.lemmas.Bool.{eqb-true, ltb-true, and_parts}
-use Rattle.std.specs.List.{list_all, take_while}
+-- A whole script: what is read is in the grammar, and what is in the grammar is read.
+use Rattle.std.proofs.Common.{ℕ, zero, suc, ◌-◌, ◌<◌, ◌≤◌, ◌≡◌, false, cond, List, [], ◌∷◌, ◌++◌, length, drop, Option, Some, None, refl, sym, ◌∙◌, ap, subst, append_assoc, arith, codes, option_and_then}
+use Rattle.std.proofs.lemmas.List.{drop_at, length-append, append-nil}
 use Rattle.mono_list.proofs.Cases.{some_is, none_some, split, split_option}
-use Rattle.mono_syntax.specs.Stmt.{Stmt}
 use Rattle.mono_syntax.specs.declared.tree.Item.{Item}
-use Rattle.mono_syntax.specs.declared.tree.Item.TheVariants as item
 use Rattle.mono_syntax.specs.declared.tree.Script.{Script}
-use Rattle.parse_script.specs.declared.token.Sign.{Sign}
-use Rattle.parse_script.specs.declared.token.Sign.TheVariants as sign
-use Rattle.parse_script.specs.declared.token.Token.{Token}
-use Rattle.parse_script.specs.declared.token.Token.TheVariants as token
-use Rattle.parse_script.specs.declared.token.Placed.{Placed}
-use Rattle.parse_script.specs.Words.{is_letter, is_word_byte, is_inside, begins}
-use Rattle.parse_script.specs.Tokens.{Spells, Piece, spelled, AreSpelled, Lexes, sign_byte}
-use Rattle.parse_script.specs.Grammar.{DerivesLine}
-use Rattle.parse_script.specs.Script.{DerivesLines, no_lines, more_lines, IsFirstScript}
-use Rattle.parse_script.specs.Reading.{run, is_line_byte, text_line, lines_at, with_front, line_tokens}
-use Rattle.parse_script.proofs.Spans.{run_of, run_length, span_at, take_run}
-use Rattle.parse_script.proofs.WordLaws.{IsWord, true_false, weaken, name_word, reserved_word, number_word}
-use Rattle.parse_script.proofs.LineLaws.{goes, lexes_found, lexes_again}
-use Rattle.parse_script.proofs.GrammarLaws.{line_again, line_found}
-use Rattle.parse_script.proofs.Scripts.{lines_past, lines_step}
+use Rattle.mono_syntax.specs.Stmt as stmt
+use Rattle.py_lexer.specs.declared.token.Token.{Token}
+use Rattle.py_lexer.specs.declared.token.TokenKind.TheVariants.{End}
+use Rattle.parse_script.specs.declared.front.Front.{Front}
+use Rattle.parse_script.specs.Spelling.{is_word, is_end}
+use Rattle.parse_script.specs.Grammar as g
+use Rattle.parse_script.specs.Grammar.{DerivesLine, DerivesClass}
+use Rattle.parse_script.specs.Script as s
+use Rattle.parse_script.specs.Script.{DerivesItem, DerivesItems, DerivesScript, class_names}
+use Rattle.parse_script.specs.Lines.{class_at, line_at, item_at, items_more, items_of, heads, is_empty}
+use Rattle.parse_script.proofs.Steps.{items_step, items_on}
+use Rattle.parse_script.proofs.Starts.{part_starts}
+use Rattle.parse_script.proofs.LinesAgain.{line_again}
+use Rattle.parse_script.proofs.LinesFound.{line_found}
+use Rattle.parse_script.proofs.ClassLaws.{class_again, class_found}
+use Rattle.parse_script.proofs.Heads.{items_heads}
+use Rattle.parse_script.proofs.TokenLaws.{word_again, word_found, end_kind}
 
--- a line's text holds no line feed
+-- an item of so many tokens
+abbrev front_of : Item → ℕ → Front
+front_of i n = record { item = i; len = n }
 
-all_append : (p : ℕ → Bool) (v w : List ℕ) → list_all p v ≡ true → list_all p w ≡ true → list_all p (v ++ w) ≡ true
-all_append p [] w a b = b
-all_append p (x ∷ v) w a b = let k = and_parts (p x) (list_all p v) a in rw (k.0) (all_append p v w k.1 b)
+module _ (text : List ℕ) (classes : List (List ℕ)) where
+  -- the first token of a line is no END and no word `class`
+  record LineStarts (ts : List Token) : Type 0 where
+    first : Token
+    more : List Token
+    are : ts ≡ first ∷ more
+    no_class : is_word text (codes "class") first ≡ false
+    no_end : is_end first.what ≡ false
 
-in_line : (p : ℕ → Bool) (b : ℕ) → p 10 ≡ false → p b ≡ true → is_line_byte b ≡ true
-unfolding is_line_byte
-in_line p b f t =
-    split (eqb b 10) (λ w. eqb b 10 ≡ w → not w ≡ true)
-    (λ _ e. true_false (p 10) (false ≡ true) (sym (ap p (eqb-true b 10 e)) ∙ t) f)
-    (λ _ _. refl) refl
+  line_starts : (ts : List Token) (l : stmt.Stmt) → DerivesLine text classes ts l → LineStarts ts
+  line_starts ts l (g.assign t w us e h v) = record { first = t; more = us; are = refl; no_class = rw h.0 refl; no_end = rw h.0 refl }
+  line_starts ts l (g.declare t w c u a us e h hc ht v) = record { first = t; more = c ∷ u ∷ us; are = refl; no_class = rw h.0 refl; no_end = rw h.0 refl }
+  line_starts ts l (g.write us n o d t w vs e hp k hd ht v) =
+      let s = part_starts text classes us n o hp in
+      record { first = s.first; more = s.more ++ d ∷ t ∷ vs; are = ap (λ l. l ++ d ∷ t ∷ vs) s.are; no_class = s.no_class; no_end = s.no_end }
+  line_starts ts l (g.print t o us n e d m ht ho hs k hd hm) =
+      record { first = t; more = o ∷ (us ++ d ∷ m ∷ []); are = refl; no_class = rw (ht.0, ht.1) refl; no_end = rw ht.0 refl }
 
-spaces_in_line : (g : ℕ) → list_all is_line_byte (replicate g 32) ≡ true
-unfolding is_line_byte
-spaces_in_line zero = refl
-spaces_in_line (suc g) = spaces_in_line g
+  -- how an item is read
+  record ReadsItem (ts : List Token) (i : Item) (rest : List Token) : Type 0 where
+    first : Token
+    more : List Token
+    are : ts ≡ first ∷ more
+    no_end : is_end first.what ≡ false
+    reads : item_at text classes (ts ++ rest) ≡ Some (front_of i (length ts))
 
-word_in_line : (w : List ℕ) → IsWord w → list_all is_line_byte w ≡ true
-unfolding is_word_byte is_letter
-word_in_line w i = weaken is_word_byte is_line_byte w (λ b. in_line is_word_byte b refl) i.all
+  item_again : (ts : List Token) (i : Item) (rest : List Token) → DerivesItem text classes ts i → ReadsItem ts i rest
+  item_again ts i rest (s.class us c d) =
+      let r = class_again text us c rest d in
+      let behind : us ++ rest ≡ r.keyword ∷ (r.behind ++ rest) = ap (λ l. l ++ rest) r.are in
+      let goes : item_at text classes (r.keyword ∷ (r.behind ++ rest)) ≡ class_at text (r.behind ++ rest) = rw (word_again text (codes "class") r.keyword r.word_is) refl in
+      let kind = r.word_is.0 in
+      record { first = r.keyword; more = r.behind; are = r.are; no_end = rw kind refl; reads = ap (item_at text classes) behind ∙ goes ∙ r.reads }
+  item_again ts i rest (s.line us l d) =
+      let r = line_starts us l d in
+      let behind : us ++ rest ≡ r.first ∷ (r.more ++ rest) = ap (λ l. l ++ rest) r.are in
+      let goes : item_at text classes (r.first ∷ (r.more ++ rest)) ≡ line_at text classes (r.first ∷ (r.more ++ rest)) = rw r.no_class refl in
+      record { first = r.first; more = r.more; are = r.are; no_end = r.no_end; reads = ap (item_at text classes) behind ∙ goes ∙ ap (line_at text classes) (sym behind) ∙ line_again text classes us l rest d }
 
-inside_in_line : (t : List ℕ) → list_all is_inside t ≡ true → list_all is_line_byte t ≡ true
-unfolding is_inside
-inside_in_line t a = weaken is_inside is_line_byte t (λ b. in_line is_inside b refl) a
+  items_again : (ts : List Token) (items : List Item) (rest : List Token) → DerivesItems text classes ts items → items_more text classes 0 [] (ts ++ rest) ≡ items_more text classes 0 items rest
+  items_again ts items rest s.no_items = refl
+  items_again ts items rest (s.more_items us is vs i d e) =
+      let r = item_again vs i rest e in
+      let some : 0 < length vs = omega (arith, ap length r.are) in
+      ap (items_more text classes 0 []) (append_assoc us vs rest) ∙ items_again us is (vs ++ rest) d
+      ∙ sym (items_step text classes is (is ++ i ∷ []) (front_of i (length vs)) r.first (vs ++ rest) (r.more ++ rest) rest (ap (λ l. l ++ rest) r.are) r.no_end r.reads some refl (sym (drop_at vs rest (length vs) refl)))
 
-sign_in_line : (s : Sign) → list_all is_line_byte (sign_byte s ∷ []) ≡ true
-unfolding is_line_byte
-sign_in_line sign.Colon = refl
-sign_in_line sign.Equals = refl
-sign_in_line sign.Plus = refl
-sign_in_line sign.Open = refl
-sign_in_line sign.Close = refl
+  -- what is read
 
-quote_in_line : list_all is_line_byte (34 ∷ []) ≡ true
-unfolding is_line_byte
-quote_in_line = refl
+  record FoundItem (tokens : List Token) (f : Front) : Type 0 where
+    front : List Token
+    rest : List Token
+    parts : tokens ≡ front ++ rest
+    long : f.len ≡ length front
+    is : DerivesItem text classes front f.item
 
-token_in_line : (w : List ℕ) (t : Token) → Spells w t → list_all is_line_byte w ≡ true
-token_in_line w (token.Name x) s = word_in_line w (name_word w s.1)
-token_in_line w (token.Reserved x) s = word_in_line w (reserved_word w s.1)
-token_in_line w (token.Number n) s = word_in_line w (number_word w n s)
-token_in_line w (token.Text t) s =
-    rw (s.0) (all_append is_line_byte (34 ∷ []) (t ++ 34 ∷ []) quote_in_line (all_append is_line_byte t (34 ∷ []) (inside_in_line t s.1) quote_in_line))
-token_in_line w (token.Sign d) s = rw s (sign_in_line d)
+  item_found : (t : Token) (ts : List Token) (f : Front) → item_at text classes (t ∷ ts) ≡ Some f → FoundItem (t ∷ ts) f
+  item_found t ts f =
+      split (is_word text (codes "class") t) (λ b. cond {A = Option Front} b (class_at text ts) (line_at text classes (t ∷ ts)) ≡ Some f → FoundItem (t ∷ ts) f)
+      (λ k e.
+      let c = class_found text t ts f (word_found text (codes "class") t k) e in
+      rw (← c.read) (record { front = c.front; rest = c.rest; parts = c.parts; long = refl; is = s.class c.front c.class_is c.is }))
+      (λ _ e.
+      let l = line_found text classes (t ∷ ts) f e in
+      rw (← some_is l.read) (record { front = l.front; rest = l.rest; parts = l.parts; long = refl; is = s.line l.front l.line l.is }))
 
-tokens_in_line : (ps : List Piece) → AreSpelled ps → list_all is_line_byte (spelled ps) ≡ true
-tokens_in_line [] a = refl
-tokens_in_line (p ∷ ps) a =
-    all_append is_line_byte (replicate p.gap 32) (p.text ++ spelled ps) (spaces_in_line p.gap)
-    (all_append is_line_byte p.text (spelled ps) (token_in_line p.text p.token a.0) (tokens_in_line ps a.2))
+  item_some : (ts : List Token) (i : Item) → DerivesItem text classes ts i → 0 < length ts
+  item_some ts i d = let r = item_again ts i [] d in omega (arith, ap length r.are)
 
-line_in_line : (n : ℕ) (line : List ℕ) (ts : List Placed) → Lexes n line ts → list_all is_line_byte line ≡ true
-line_in_line n line ts h = rw h.text_is (tokens_in_line h.pieces h.are_spelled)
+  record FoundItems (front tokens : List Token) (items : List Item) : Type 0 where
+    more : List Token
+    last : Token
+    parts : tokens ≡ more ++ last ∷ []
+    last_is : last.what ≡ End
+    is : DerivesItems text classes (front ++ more) items
 
--- what is in the grammar is read
+  end_found : (front : List Token) (t : Token) (ts : List Token) (is items : List Item) → t.what ≡ End → DerivesItems text classes front is
+      → cond {A = Option (List Item)} (is_empty ts) (Some is) None ≡ Some items → FoundItems front (t ∷ ts) items
+  end_found front t [] is items h d e = rw (← some_is e) (record { more = []; last = t; parts = refl; last_is = h; is = rw (append-nil front) d })
+  end_found front t (u ∷ ts) is items h d e = none_some _ e
 
-text_line_again : (n : ℕ) (line : List ℕ) (ts : List Placed) (s : Stmt) → Lexes n line ts → DerivesLine ts s → text_line n line ≡ Some s
-text_line_again n line ts s h d = rw (lexes_again n line ts h) (line_again ts s d)
+  items_found : (fuel : ℕ) (is : List Item) (front ts : List Token) (items : List Item) → length ts ≤ fuel → DerivesItems text classes front is → items_more text classes 0 is ts ≡ Some items
+      → FoundItems front ts items
+  items_found fuel is front [] items l d = λ e. none_some _ e
+  items_found zero is front (t ∷ ts) items l d = absurd (omega arith)
+  items_found (suc fuel) is front (t ∷ ts) items l d =
+      let Goal : Type 0 = FoundItems front (t ∷ ts) items in
+      let next : Front → Option (List Item) = λ i. items_more text classes (i.len - 1) (is ++ i.item ∷ []) ts in
+      split (is_end t.what) (λ b. cond {A = Option (List Item)} b (cond {A = Option (List Item)} (is_empty ts) (Some is) None) (option_and_then next (item_at text classes (t ∷ ts))) ≡ Some items → Goal)
+      (λ h e. end_found front t ts is items (end_kind t.what h) d e)
+      (λ _. split_option (item_at text classes (t ∷ ts)) (λ o. option_and_then next o ≡ Some items → Goal)
+      (λ _ e. none_some Goal e)
+      (λ i q e.
+      let k = item_found t ts i q in
+      let some = item_some k.front i.item k.is in
+      let all = is ++ i.item ∷ [] in
+      let behind : drop i.len (t ∷ ts) ≡ k.rest = ap (drop i.len) k.parts ∙ drop_at k.front k.rest i.len (sym k.long) in
+      let on : items_more text classes 0 all k.rest ≡ Some items =
+      ap (items_more text classes 0 all) (sym behind) ∙ sym (items_on text classes all i.len t ts (omega (arith, k.long, some))) ∙ e in
+      let m = items_found fuel all (front ++ k.front) k.rest items (omega (arith, some, ap length k.parts, length-append k.front k.rest)) (s.more_items front is k.front i.item d k.is) on in
+      record {
+        more = k.front ++ m.more;
+        last = m.last;
+        parts = k.parts ∙ ap (λ l. k.front ++ l) m.parts ∙ sym (append_assoc k.front m.more (m.last ∷ []));
+        last_is = m.last_is;
+        is = rw append_assoc at m.is;
+      }))
 
-pub lines_again : (n : ℕ) (bs : List ℕ) (items : List Item) → DerivesLines n bs items → lines_at 0 n bs ≡ Some items
-unfolding is_line_byte
-lines_again n bs items (no_lines m) = refl
-lines_again n bs items (more_lines m line ts s rest us h d r) =
-    let text = line ++ (10 ∷ rest) in
-    let long : length text ≡ length line + suc (length rest) = length-append line (10 ∷ rest) in
-    let end = run_of is_line_byte line (10 ∷ rest) (line_in_line m line ts h) refl in
-    let behind : rest ≡ drop (length line + 1) text = sym (drop-append-add line (10 ∷ rest) 1) in
-    let step =
-    lines_step m (length line) text rest line s (omega arith) (sym end) (omega arith) (sym (take_at line (10 ∷ rest) (length line) refl)) (sym (text_line_again m line ts s h d)) behind in
-    sym step ∙ ap (with_front (item.Stmt s ∷ [])) (lines_again (m + 1) rest us r)
+-- tokens are a script exactly where they are read, and have the tree that is read
 
--- what is read is in the grammar
+script_heads : (text : List ℕ) (classes : List (List ℕ)) (ts : List Token) (items : List Item) (d : Token) → DerivesItems text classes ts items → heads text false (ts ++ d ∷ []) ≡ class_names items
+script_heads text classes ts items d h = items_heads text classes ts items (d ∷ []) h ∙ append-nil (class_names items)
 
--- a line's text, tokens and statement
-record Line (n : ℕ) (line : List ℕ) (s : Stmt) : Type 0 where
-  tokens : List Placed
-  lexes : Lexes n line tokens
-  derives : DerivesLine tokens s
+pub script_found : (text : List ℕ) (tokens : List Token) (items : List Item) → items_of text tokens ≡ Some items → DerivesScript text tokens (record { items = items })
+script_found text tokens items e =
+    let named = heads text false tokens in
+    let f = items_found text named (length tokens) [] [] tokens items (omega arith) s.no_items e in
+    let same : named ≡ class_names items = ap (heads text false) f.parts ∙ script_heads text named f.more items f.last f.is in
+    let is = subst (λ (c : List (List ℕ)). DerivesItems text c f.more items) same f.is in
+    let made = s.script f.more items f.last is f.last_is in
+    subst (λ (l : List Token). DerivesScript text l (record { items = items })) (sym f.parts) made
 
-text_line_found : (n : ℕ) (line : List ℕ) (s : Stmt) → text_line n line ≡ Some s → Line n line s
-text_line_found n line s q =
-    let Goal : Type 0 = Line n line s in
-    split_option (line_tokens n line) (λ _. Goal) (λ o. none_some Goal (rw o at q))
-    (λ ts o. record { tokens = ts; lexes = lexes_found n line ts o; derives = line_found ts s (rw o at q) })
+ends_here : (text : List ℕ) (classes : List (List ℕ)) (items : List Item) (d : Token) → d.what ≡ End → items_more text classes 0 items (d ∷ []) ≡ Some items
+ends_here text classes items d h = rw h refl
 
--- what is behind a line that has an end
-feed : (w rest : List ℕ) → length w < length (w ++ rest) → begins is_line_byte rest ≡ false → (behind : List ℕ) × (rest ≡ 10 ∷ behind)
-unfolding is_line_byte
-feed w [] l s = absurd (omega (arith, length-append w []))
-feed w (y ∷ behind) l s = (behind, ap (λ z. z ∷ behind) (eqb-true y 10 (not_false (eqb y 10) s)))
-  where
-    not_false : (b : Bool) → not b ≡ false → b ≡ true
-    not_false true e = refl
-    not_false false e = sym e
+pub script_again : (text : List ℕ) (tokens : List Token) (script : Script) → DerivesScript text tokens script → items_of text tokens ≡ Some script.items
+script_again text tokens script (s.script ts items d h e) =
+    let named = class_names items in
+    ap (λ c. items_more text c 0 [] (ts ++ d ∷ [])) (script_heads text named ts items d h) ∙ items_again text named ts items (d ∷ []) h ∙ ends_here text named items d e
 
-lines_found : (m n : ℕ) (bs : List ℕ) (items : List Item) → length bs ≤ m → lines_at 0 n bs ≡ Some items → DerivesLines n bs items
-lines_found m n [] items l = λ q. rw (← some_is q) (no_lines n)
-lines_found zero n (b ∷ bs) items l = absurd (omega arith)
-lines_found (suc m) n (b ∷ bs) items l =
-    let text : List ℕ = b ∷ bs in
-    let Goal : Type 0 = DerivesLines n text items in
-    let len = run is_line_byte text in
-    split (nat_lt len (length text))
-    (λ w. cond w (option_and_then (λ s. with_front (item.Stmt s ∷ []) (lines_at len (n + 1) bs)) (text_line n (take len text))) None ≡ Some items → Goal)
-    (λ w q.
-    split_option (text_line n (take len text)) (λ _. Goal) (λ o. none_some Goal (rw o at q))
-    (λ s o.
-    let g = goes (item.Stmt s) (lines_at len (n + 1) bs) items (rw o at q) in
-    let p = span_at is_line_byte text in
-    let line = take_while is_line_byte text in
-    let t : take len text ≡ line = take_run is_line_byte text in
-    let a = text_line_found n line s (ap (text_line n) (sym t) ∙ o) in
-    let long : len ≡ length line = run_length is_line_byte text in
-    let w : len < length text = ltb-true len (length text) w in
-    let f = feed line p.rest (omega (arith, ap length p.parts)) p.stops in
-    let parts : text ≡ line ++ (10 ∷ f.0) = p.parts ∙ ap (λ l. line ++ l) f.1 in
-    let far : suc len ≡ length line + 1 = omega arith in
-    let left : drop len bs ≡ f.0 = ap (drop (suc len)) parts ∙ ap (λ k. drop k (line ++ (10 ∷ f.0))) far ∙ drop-append-add line (10 ∷ f.0) 1 in
-    let next : lines_at 0 (n + 1) f.0 ≡ Some g.more = ap (lines_at 0 (n + 1)) (sym left) ∙ sym (lines_past len (n + 1) bs) ∙ g.on in
-    let rest = lines_found m (n + 1) f.0 g.more (omega (arith, ap length parts, length-append line (10 ∷ f.0))) next in
-    let made = more_lines n line a.tokens s f.0 g.more a.lexes a.derives rest in
-    rw (g.all) (subst (λ (z : List ℕ). DerivesLines n z (item.Stmt s ∷ g.more)) (sym parts) made)))
-    (λ _ q. none_some Goal q)
-
--- a text is a first script exactly where it is read, and has the tree that is read
-
-pub script_found : (text : List ℕ) (items : List Item) → lines_at 0 1 text ≡ Some items → IsFirstScript text (record { items = items })
-script_found text items q = lines_found (length text) 1 text items (omega arith) q
-
-pub script_again : (text : List ℕ) (script : Script) → IsFirstScript text script → lines_at 0 1 text ≡ Some script.items
-script_again text script h = lines_again 1 text script.items h
-
--- a first script has one tree
-pub one_script : (text : List ℕ) (a b : Script) → IsFirstScript text a → IsFirstScript text b → a ≡ b
-one_script text a b h k =
-    let same : a.items ≡ b.items = some_is (sym (script_again text a h) ∙ script_again text b k) in
-    ap (λ items. record { items = items }) same
+-- tokens have one tree
+pub one_script : (text : List ℕ) (tokens : List Token) (a b : Script) → DerivesScript text tokens a → DerivesScript text tokens b → a ≡ b
+one_script text tokens a b h k =
+    let same : a.items ≡ b.items = some_is (sym (script_again text tokens a h) ∙ script_again text tokens b k) in
+    ap (λ (items : List Item). record { items = items }) same

@@ -1,6 +1,6 @@
-pub mod Words
-pub mod Tokens
+pub mod Spelling
 pub mod Grammar
 pub mod Script
-pub mod FirstTrees
 pub mod Reading
+pub mod Lines
+pub mod Trees

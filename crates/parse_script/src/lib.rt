@@ -1,14 +1,19 @@
-//! The front end for first scripts: lines that declare a variable or print. The bytes of a script come in, and its tree
-//! goes out, or a refusal at the text's first place. The contract says that the tree is the one that the grammar gives,
-//! and that a text is refused exactly where the grammar gives none.
+//! From the tokens of a script to its tree, for scripts of classes and lines: a line assigns a sum to a name or an attribute, or
+//! prints one. Tokens and their text come in, and the tree goes out, or a refusal at the text's first place. The contract says
+//! that the tree is the one that the grammar gives, and that tokens are refused exactly where the grammar gives none.
 #![tactic(auto)]
 
-mod lexer;
+mod class;
+mod expression;
+mod front;
+mod leaf;
 mod line;
-mod parse;
+mod names;
+mod parsed;
+mod parsing;
 mod script;
-mod sum;
-mod token;
-mod word;
+mod spelling;
+#[cfg(test)]
+mod tests;
 
-pub use parse::parse_text;
+pub use parsing::parse;

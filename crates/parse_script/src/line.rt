@@ -1,151 +1,205 @@
-ghost use Rattle.std.specs.Prelude.{◌≡◌, IfOk};
-ghost use Rattle.mono_syntax.specs.AnnView.{form_of};
-ghost use Rattle.std.specs.Option.{option_map};
-ghost use Rattle.parse_script.specs.Reading.{expect, type_form, type_of, is_end, print_at, assign_sum, assign_type, assign_at, line_of};
+ghost use Rattle.std.specs.Prelude.{◌≡◌, ◌+◌, ◌<◌, ◌≤◌, length, IfOk, IfSome};
+ghost use Rattle.parse_script.specs.Lines.{value_at, plain_at, typed_at, print_at, write_at, assigned, begins_assignment, line_at};
 
-use crate::sum::sum_at;
-use crate::token::{Placed, Sign, Token, sign_byte};
-use crate::word::is_word;
-use mono_list::Stack;
-use mono_syntax::{Ann, AnnForm, Place, Stmt, StmtKind, Word};
+use crate::expression::{part_at, sum_at};
+use crate::front::{Front, begins_newline, closes_line};
+use crate::leaf::type_of;
+use crate::names::ClassNames;
+use crate::parsed::{Parsed, word};
+use crate::spelling::{begins_sign, behind_sign, front, is_word, name_of, past};
+use mono_syntax::{ExprKind, Item, Stmt, StmtKind, Word};
+use py_lexer::Token;
 use sqlite_items::Items;
 use std::alloc::{AllocError, Global};
 
-/// The place of an operator at the front, and the tokens behind it.
-fn expect(sign: Sign, mut tokens: Stack<Placed>) -> Option<(Place, Stack<Placed>)>
-    ensures { result ≡ expect sign tokens }
+/// The greatest weight of an expression.
+const HEAVIEST: u32 = 100;
+
+/// `=`, a sum and NEWLINE. What is read has the tokens of all three.
+fn value_at(
+    alloc: Global,
+    text: &str,
+    classes: &ClassNames,
+    tokens: &[Token],
+) -> Result<Option<Parsed>, AllocError>
+    requires { length text.now ≤ 1048576 }
+    ensures value { IfOk result (λ v. v ≡ value_at text.now classes.now tokens.now) }
+    ensures within { IfOk result (λ v. IfSome v (λ v. v.len ≤ length tokens.now)) }
 {
-    let Placed { token, place } = tokens.pop()?;
-    match token {
-        Token::Sign(found) => {
-            if sign_byte(found) == sign_byte(sign) {
-                Some((place, tokens))
-            } else {
-                None
-            }
-        }
-        _ => None,
+    let Some((_, rest)) = behind_sign(text, "=", tokens) else {
+        return Ok(None);
+    };
+    let Some(sum) = sum_at(alloc, text, classes, rest, HEAVIEST)? else {
+        return Ok(None);
+    };
+    if !begins_newline(past(rest, sum.len)) {
+        return Ok(None);
     }
+    Ok(Some(Parsed {
+        expr: sum.expr,
+        weight: sum.weight,
+        len: sum.len + 2,
+    }))
 }
 
-#[tactic(auto, unfolding(crate::specs::Reading::type_form))]
-fn type_form(word: &[u8]) -> Option<AnnForm>
-    ensures { option_map form_of result ≡ type_form word.now }
+fn plain_at(
+    alloc: Global,
+    text: &str,
+    classes: &ClassNames,
+    name: Word,
+    tokens: &[Token],
+) -> Result<Option<Front>, AllocError>
+    requires { length text.now ≤ 1048576 }
+    ensures value { IfOk result (λ line. line ≡ plain_at text.now classes.now name tokens.now) }
+    ensures within { IfOk result (λ line. IfSome line (λ l. (0 < l.len) × (l.len ≤ length tokens.now + 1))) }
 {
-    if is_word(word, "int") {
-        return Some(AnnForm::Int);
-    }
-    if is_word(word, "bool") {
-        return Some(AnnForm::Bool);
-    }
-    if is_word(word, "str") {
-        return Some(AnnForm::Str);
-    }
-    if is_word(word, "Dyn") {
-        return Some(AnnForm::Dyn);
-    }
-    if is_word(word, "None") {
-        return Some(AnnForm::Nil);
-    }
-    None
+    let Some(value) = value_at(alloc, text, classes, tokens)? else {
+        return Ok(None);
+    };
+    let kind = StmtKind::Assign(name, None, value.expr.into_inner());
+    let item = Item::Stmt(Stmt { kind });
+    Ok(Some(Front {
+        item,
+        len: value.len + 1,
+    }))
 }
 
-/// The annotation of one token.
-fn type_of(place: Place, token: Token) -> Option<Ann>
-    ensures { result ≡ type_of place token }
+/// What is assigned to a name with a type, behind the colon.
+fn typed_at(
+    alloc: Global,
+    text: &str,
+    classes: &ClassNames,
+    name: Word,
+    tokens: &[Token],
+) -> Result<Option<Front>, AllocError>
+    requires { length text.now ≤ 1048576 }
+    ensures value { IfOk result (λ line. line ≡ typed_at text.now classes.now name tokens.now) }
+    ensures within { IfOk result (λ line. IfSome line (λ l. (0 < l.len) × (l.len ≤ length tokens.now + 2))) }
 {
-    match token {
-        Token::Reserved(word) => {
-            let what = type_form(word.as_slice())?;
-            Some(Ann { place, what })
-        }
-        _ => None,
-    }
-}
-
-fn is_end(tokens: &Stack<Placed>) -> bool
-    ensures { result ≡ is_end tokens.now }
-{
-    tokens.len() == 0
+    let Some((ty, rest)) = front(tokens) else {
+        return Ok(None);
+    };
+    let Some(ann) = type_of(alloc, text, ty)? else {
+        return Ok(None);
+    };
+    let Some(value) = value_at(alloc, text, classes, rest)? else {
+        return Ok(None);
+    };
+    let kind = StmtKind::Assign(name, Some(ann), value.expr.into_inner());
+    let item = Item::Stmt(Stmt { kind });
+    Ok(Some(Front {
+        item,
+        len: value.len + 3,
+    }))
 }
 
 /// A print, behind its word.
-fn print_at(alloc: Global, tokens: Stack<Placed>) -> Result<Option<Stmt>, AllocError>
-    ensures { IfOk result (λ statement. statement ≡ print_at tokens) }
+fn print_at(
+    alloc: Global,
+    text: &str,
+    classes: &ClassNames,
+    tokens: &[Token],
+) -> Result<Option<Front>, AllocError>
+    requires { length text.now ≤ 1048576 }
+    ensures value { IfOk result (λ line. line ≡ print_at text.now classes.now tokens.now) }
+    ensures within { IfOk result (λ line. IfSome line (λ l. (0 < l.len) × (l.len ≤ length tokens.now + 1))) }
 {
-    let Some((place, tokens)) = expect(Sign::Open, tokens) else {
+    let Some((place, rest)) = behind_sign(text, "(", tokens) else {
         return Ok(None);
     };
-    let Some((sum, tokens)) = sum_at(alloc, tokens)? else {
+    let Some(sum) = sum_at(alloc, text, classes, rest, HEAVIEST)? else {
         return Ok(None);
     };
-    let Some((_, tokens)) = expect(Sign::Close, tokens) else {
-        return Ok(None);
-    };
-    if !is_end(&tokens) {
+    if !closes_line(text, past(rest, sum.len)) {
         return Ok(None);
     }
     let mut parts = Items::new(alloc);
-    parts.push(sum.into_inner())?;
+    parts.push(sum.expr.into_inner())?;
     let kind = StmtKind::Print(place, parts);
-    Ok(Some(Stmt { kind }))
+    let item = Item::Stmt(Stmt { kind });
+    Ok(Some(Front {
+        item,
+        len: sum.len + 4,
+    }))
 }
 
-/// An assignment, behind its type.
-fn assign_sum(
+/// What is assigned to an attribute.
+fn write_at(
     alloc: Global,
+    text: &str,
+    classes: &ClassNames,
+    tokens: &[Token],
+) -> Result<Option<Front>, AllocError>
+    requires { length text.now ≤ 1048576 }
+    ensures value { IfOk result (λ line. line ≡ write_at text.now classes.now tokens.now) }
+    ensures within { IfOk result (λ line. IfSome line (λ l. (0 < l.len) × (l.len ≤ length tokens.now))) }
+{
+    let Some(target) = part_at(alloc, text, classes, tokens, HEAVIEST + 1)? else {
+        return Ok(None);
+    };
+    let behind = past(tokens, target.len);
+    let Some(value) = value_at(alloc, text, classes, behind)? else {
+        return Ok(None);
+    };
+    let ExprKind::Read(object, field) = target.expr.into_inner().kind else {
+        return Ok(None);
+    };
+    let kind = StmtKind::Write(object.into_inner(), field, value.expr.into_inner());
+    let item = Item::Stmt(Stmt { kind });
+    Ok(Some(Front {
+        item,
+        len: target.len + value.len,
+    }))
+}
+
+/// The line of a name, where `:` or `=` stands behind it.
+fn named_line(
+    alloc: Global,
+    text: &str,
+    classes: &ClassNames,
     name: Word,
-    ann: Ann,
-    tokens: Stack<Placed>,
-) -> Result<Option<Stmt>, AllocError>
-    ensures { IfOk result (λ statement. statement ≡ assign_sum name ann tokens) }
+    tokens: &[Token],
+) -> Result<Option<Front>, AllocError>
+    requires { length text.now ≤ 1048576 }
+    ensures value { IfOk result (λ line. line ≡ assigned text.now classes.now name tokens.now) }
+    ensures within { IfOk result (λ line. IfSome line (λ l. (0 < l.len) × (l.len ≤ length tokens.now + 1))) }
 {
-    let Some((_, tokens)) = expect(Sign::Equals, tokens) else {
-        return Ok(None);
-    };
-    let Some((sum, tokens)) = sum_at(alloc, tokens)? else {
-        return Ok(None);
-    };
-    if !is_end(&tokens) {
-        return Ok(None);
+    match behind_sign(text, ":", tokens) {
+        Some((_, rest)) => typed_at(alloc, text, classes, name, rest),
+        None => plain_at(alloc, text, classes, name, tokens),
     }
-    let kind = StmtKind::Assign(name, Some(ann), sum.into_inner());
-    Ok(Some(Stmt { kind }))
 }
 
-/// An assignment, behind its name.
-fn assign_at(alloc: Global, name: Word, tokens: Stack<Placed>) -> Result<Option<Stmt>, AllocError>
-    ensures { IfOk result (λ statement. statement ≡ assign_at name tokens) }
+/// Whether `:` or `=` comes first.
+fn begins_assignment(text: &str, tokens: &[Token]) -> bool
+    ensures { result ≡ begins_assignment text.now tokens.now }
 {
-    let Some((_, mut tokens)) = expect(Sign::Colon, tokens) else {
-        return Ok(None);
-    };
-    let Some(Placed { token, place }) = tokens.pop() else {
-        return Ok(None);
-    };
-    let Some(ann) = type_of(place, token) else {
-        return Ok(None);
-    };
-    assign_sum(alloc, name, ann, tokens)
+    begins_sign(text, ":", tokens) || begins_sign(text, "=", tokens)
 }
 
-/// The statement of a line's tokens, or None where they are no line of a first script.
-#[tactic(auto, unfolding(crate::specs::Reading::line_of))]
-pub fn line_of(alloc: Global, mut tokens: Stack<Placed>) -> Result<Option<Stmt>, AllocError>
-    ensures { IfOk result (λ statement. statement ≡ line_of tokens) }
+/// The line at the front of the tokens.
+pub fn line_at(
+    alloc: Global,
+    text: &str,
+    classes: &ClassNames,
+    tokens: &[Token],
+) -> Result<Option<Front>, AllocError>
+    requires { length text.now ≤ 1048576 }
+    ensures value { IfOk result (λ line. line ≡ line_at text.now classes.now tokens.now) }
+    ensures within { IfOk result (λ line. IfSome line (λ l. (0 < l.len) × (l.len ≤ length tokens.now))) }
 {
-    let Some(Placed { token, place }) = tokens.pop() else {
+    let Some((first, rest)) = front(tokens) else {
         return Ok(None);
     };
-    match token {
-        Token::Name(text) => assign_at(alloc, Word { text, place }, tokens),
-        Token::Reserved(word) => {
-            if is_word(word.as_slice(), "print") {
-                print_at(alloc, tokens)
-            } else {
-                Ok(None)
-            }
-        }
-        _ => Ok(None),
+    if is_word(text, "print", first) {
+        return print_at(alloc, text, classes, rest);
     }
+    let Some(name) = name_of(text, first) else {
+        return write_at(alloc, text, classes, tokens);
+    };
+    if !begins_assignment(text, rest) {
+        return write_at(alloc, text, classes, tokens);
+    }
+    let name = word(alloc, name, first.place)?;
+    named_line(alloc, text, classes, name, rest)
 }

@@ -1,50 +1,74 @@
-ghost use Rattle.std.specs.Prelude.{◌≡◌, ◌+◌, ◌≤◌, ◌<◌, ◌^◌, length, IfOk};
-ghost use Rattle.parse_script.specs.Reading.{run, is_line_byte, text_line, lines_at};
+ghost use Rattle.std.specs.Prelude.{◌≡◌, ◌<◌, ◌≤◌, ◌^◌, [], length, IfOk, IfSome};
+ghost use Rattle.parse_script.specs.Lines.{item_at, items_more, items_of};
 
-use crate::lexer::{front, line_tokens, past};
-use crate::line::line_of;
-use mono_syntax::{Item, Stmt};
+use crate::class::{class_at, class_names};
+use crate::front::Front;
+use crate::line::line_at;
+use crate::names::ClassNames;
+use crate::spelling::{front, is_end, is_word, past};
+use mono_syntax::Item;
+use py_lexer::Token;
 use sqlite_items::Items;
 use std::alloc::{AllocError, Global};
 
-#[tactic(auto, unfolding(crate::specs::Reading::run, crate::specs::Reading::is_line_byte))]
-fn line_length(text: &[u8]) -> usize
-    ensures value { result ≡ run is_line_byte text.now }
-    ensures within { result ≤ length text.now }
+/// The class or line at the front of the tokens.
+fn item_at(
+    alloc: Global,
+    text: &str,
+    classes: &ClassNames,
+    tokens: &[Token],
+) -> Result<Option<Front>, AllocError>
+    requires { length text.now ≤ 1048576 }
+    ensures value { IfOk result (λ item. item ≡ item_at text.now classes.now tokens.now) }
+    ensures within { IfOk result (λ item. IfSome item (λ i. (0 < i.len) × (i.len ≤ length tokens.now))) }
 {
-    text.iter().take_while(|b| **b != b'\n').count()
-}
-
-fn text_line(alloc: Global, number: u32, line: &[u8]) -> Result<Option<Stmt>, AllocError>
-    requires { length line.now + 1 < 2 ^ 32 }
-    ensures { IfOk result (λ statement. statement ≡ text_line number line.now) }
-{
-    let Some(tokens) = line_tokens(alloc, number, line)? else {
+    let Some((first, rest)) = front(tokens) else {
         return Ok(None);
     };
-    line_of(alloc, tokens)
+    if is_word(text, "class", first) {
+        class_at(alloc, text, rest)
+    } else {
+        line_at(alloc, text, classes, tokens)
+    }
 }
 
-/// The items of a text, or None where it is no first script.
-#[tactic(auto, unfolding(crate::specs::Reading::run, crate::specs::Reading::is_line_byte))]
-pub fn items_of(alloc: Global, text: &[u8]) -> Result<Option<Items<Item>>, AllocError>
+/// The items up to END, behind which nothing stands.
+fn items_at(
+    alloc: Global,
+    text: &str,
+    classes: &ClassNames,
+    tokens: &[Token],
+) -> Result<Option<Items<Item>>, AllocError>
     requires { length text.now ≤ 1048576 }
-    ensures { IfOk result (λ items. items ≡ lines_at 0 1 text.now) }
+    ensures { IfOk result (λ items. items ≡ items_more text.now classes.now 0 [] tokens.now) }
 {
     let mut items = Items::new(alloc);
-    let mut rest = text;
-    let mut number: u32 = 1;
-    while !rest.is_empty() {
-        let len = line_length(rest);
-        if len >= rest.len() {
+    let mut rest = tokens;
+    while let Some((token, behind)) = front(rest) {
+        if is_end(token) {
+            if behind.is_empty() {
+                return Ok(Some(items));
+            }
             return Ok(None);
         }
-        let Some(statement) = text_line(alloc, number, front(rest, len))? else {
+        let Some(Front { item, len }) = item_at(alloc, text, classes, rest)? else {
             return Ok(None);
         };
-        items.push(Item::Stmt(statement))?;
-        rest = past(rest, len + 1);
-        number += 1;
+        items.push(item)?;
+        rest = past(rest, len);
     }
-    Ok(Some(items))
+    Ok(None)
+}
+
+/// The items of a script's tokens.
+pub fn items_of(
+    alloc: Global,
+    text: &str,
+    tokens: &[Token],
+) -> Result<Option<Items<Item>>, AllocError>
+    requires { length text.now ≤ 1048576 }
+    ensures { IfOk result (λ items. items ≡ items_of text.now tokens.now) }
+{
+    let classes = class_names(alloc, text, tokens)?;
+    items_at(alloc, text, &classes, tokens)
 }
