@@ -1,107 +1,138 @@
--- The test of a script's forms and reads finds what isn't built or has no name.
-use Rattle.std.proofs.Common.{◌≡◌, zero, suc, ◌⊎◌, inl, inr, true, false, List, [], ◌∷◌, ◌++◌, refl, sym, ◌∙◌, ap, arith}
-use Rattle.std.specs.Prelude.{Contains}
-use Rattle.std.proofs.lemmas.Bool.{and_parts, and_cases, leb-true, leb-false}
-use Rattle.std.proofs.lemmas.List.Elements.{Contains-append_left, Contains-append_right, Contains-append_cases}
+-- The test of a script's forms and names says whether they are built.
+use Rattle.std.proofs.Common.{◌≡◌, ℕ, true, List, [], ◌∷◌, refl, sym, ◌∙◌, ap}
+use Rattle.std.specs.Prelude.{Option, Some, None, is_some}
+use Rattle.std.proofs.lemmas.Bool.{and_parts, and_from, leb-true, le-leb}
+use Rattle.mono_syntax.specs.declared.cast.NamedType.{NamedType}
 use Rattle.mono_syntax.specs.declared.leaf.Op.TheVariants.{Add}
 use Rattle.mono_syntax.specs.declared.leaf.Word.{Word}
 use Rattle.mono_syntax.specs.declared.tree.Item.{Item}
 use Rattle.mono_syntax.specs.declared.tree.Item.TheVariants as item
-use Rattle.mono_syntax.specs.Expr.{Expr, local, number, text, truth, nil, binary, no_exprs, more_exprs}
-use Rattle.mono_syntax.specs.Stmt.{Stmt, assign, print}
-use Rattle.script_casts.specs.declared.names.Known.{Known}
-use Rattle.script_casts.specs.BlockNames.{statements}
-use Rattle.script_casts.specs.BuiltForms.{IsBuilt, IsBuiltLine, AreBuilt}
-use Rattle.script_casts.specs.KnownNames.{is_fine, is_fine_statement, all_fine}
-use Rattle.script_casts.specs.ScopeFaults.{reads, line_reads, block_reads}
-use Rattle.script_casts.proofs.NameRuns.{has}
+use Rattle.mono_syntax.specs.Ann.{Ann}
+use Rattle.mono_syntax.specs.Expr.{Expr, local, number, text, truth, nil, binary, read, call, cast, Exprs, no_exprs, more_exprs}
+use Rattle.mono_syntax.specs.Stmt.{Stmt, assign, print, write}
+use Rattle.mono_syntax.specs.Ty.{Ty, Fields}
+use Rattle.mono_syntax.specs.TyView.{fields}
+use Rattle.mono_tree.specs.WellTyped.{type_of_name}
+use Rattle.script_rules.specs.Writes.{Writes, Declares}
+use Rattle.typing_rules.specs.BuiltForms.{IsBuilt, AreBuiltExprs, IsBuiltLine, AreBuilt}
+use Rattle.typing_rules.specs.Members.{Names, Numbered, class_at}
+use Rattle.script_casts.specs.declared.known.Known.{Known}
+use Rattle.script_casts.specs.declared.known.KnownClass.{KnownClass}
+use Rattle.script_casts.specs.Annotations.{written, is_written}
+use Rattle.script_casts.specs.Fine.{is_fine, are_fine, is_fine_line, all_fine}
+use Rattle.script_casts.specs.KnownNames.{known_class}
+use Rattle.script_casts.proofs.AnnotationLaws.{found_writes, written_found, is_written-written}
+use Rattle.script_casts.proofs.Classes.{IsKnown, SameClass, same_class}
 
-append_nothing : {A : Type 0} (xs : List A) (x : A) → Contains xs x → Contains (xs ++ []) x
-append_nothing xs x c = Contains-append_left xs [] x c
+pub there : {A : Type 0} (o : Option A) → is_some o ≡ true → (x : A) × (o ≡ Some x)
+there (Some x) h = (x, refl)
+there None h = absurd cc
 
-nothing_appended : {A : Type 0} (xs : List A) (x : A) → Contains (xs ++ []) x → Contains xs x
-nothing_appended xs x c = elim (Contains-append_cases xs [] x c) [ inl h ↦ h | inr h ↦ absurd (omega (arith, h.1)) ]
+some_there : {A : Type 0} (o : Option A) (x : A) → o ≡ Some x → is_some o ≡ true
+some_there o x e = ap is_some e
 
-module _ (ks : List Known) where
-  -- a name of the list isn't known
-  abbrev pub Unknown : List Word → Type 0
-  Unknown ws = (w : Word) × Contains ws w × (has ks w.text ≡ false)
+module _ (names : Names) (ks : Known) (known : IsKnown names ks) where
+  same_name : (x : List ℕ) → type_of_name ks.values x ≡ type_of_name names.values x
+  same_name x = ap (λ (vs : List NamedType). type_of_name vs x) known.values
 
-  -- ---- what passes the test
+  pub known_name : (w : Word) → is_some (type_of_name ks.values w.text) ≡ true → (t : Ty) × (type_of_name names.values w.text ≡ Some t)
+  known_name w h = let (t, e) = there (type_of_name ks.values w.text) h in (t, sym (same_name w.text) ∙ e)
 
-  -- each name of the list is known
-  abbrev pub AllKnown : List Word → Type 0
-  AllKnown ws = (w : Word) → Contains ws w → has ks w.text ≡ true
+  pub name_known : (w : Word) (t : Ty) → type_of_name names.values w.text ≡ Some t → type_of_name ks.values w.text ≡ Some t
+  name_known w t e = same_name w.text ∙ e
 
-  both_known : (vs ws : List Word) → AllKnown vs → AllKnown ws → AllKnown (vs ++ ws)
-  both_known vs ws h k w c = elim (Contains-append_cases vs ws w c) [ inl i ↦ h w i | inr i ↦ k w i ]
+  -- the class of a name, which has fields
+  abbrev HasClass : Word → Type 0
+  HasClass w = (n : Numbered) × (fs : Fields) × (class_at names.classes w.text ≡ Some n) × Declares names.classes n.class.fields fs
 
-  none_known : AllKnown []
-  none_known w c = absurd (omega (arith, c.1))
+  class_there : (w : Word) (m : Option Numbered) (k : Option KnownClass) → class_at names.classes w.text ≡ m → SameClass names.classes m k → is_some k ≡ true → HasClass w
+  class_there w (Some m) (Some k) e h i = (m, fields k.fields, e, h.declared)
+  class_there w None (Some k) e h i = absurd h
+  class_there w m None e h i = absurd cc
 
-  one_known : (v : Word) → has ks v.text ≡ true → AllKnown (v ∷ [])
-  one_known v h w (zero, l, e) = ap (λ (z : Word). has ks z.text) (sym e) ∙ h
-  one_known v h w (suc k, l, e) = absurd (omega (arith, l))
+  class_tested : (m : Option Numbered) (k : Option KnownClass) (n : Numbered) → m ≡ Some n → SameClass names.classes m k → is_some k ≡ true
+  class_tested (Some m) (Some k) n e h = refl
+  class_tested None k n e h = absurd cc
+  class_tested (Some m) None n e h = absurd h
 
-  pub fine_expr : (e : Expr) → is_fine ks e ≡ true → IsBuilt e × AllKnown (reads e)
-  fine_expr (local w) h = (tt, one_known w h)
-  fine_expr (number p n) h = (leb-true n 140737488355327 h, none_known)
-  fine_expr (text p t) h = (tt, none_known)
-  fine_expr (truth p b) h = (tt, none_known)
-  fine_expr (nil p) h = (tt, none_known)
-  fine_expr (binary Add p a b) h =
-      let (f, g) = and_parts (is_fine ks a) (is_fine ks b) h in
-      let (i, j) = fine_expr a f in
-      let (k, l) = fine_expr b g in
-      ((i, k), both_known (reads a) (reads b) j l)
-  fine_expr _ h = absurd cc
+  same : (w : Word) → SameClass names.classes (class_at names.classes w.text) (known_class ks.classes w.text)
+  same w = same_class names.classes 0 names.classes ks.classes w.text known.classes
 
-  fine_line : (s : Stmt) → is_fine_statement ks s ≡ true → AllKnown (line_reads s)
-  fine_line (assign w ann e) h = (fine_expr e h).1
-  fine_line (print p no_exprs) h = absurd cc
-  fine_line (print p (more_exprs e no_exprs)) h = both_known (reads e) [] (fine_expr e h).1 none_known
-  fine_line (print p (more_exprs e (more_exprs f es))) h = absurd cc
-  fine_line _ h = absurd cc
+  annotation_there : (a : Ann) → is_written ks.annotations a ≡ true → (t : Ty) × Writes names.classes a t
+  annotation_there a h =
+      let (t, e) = there (written ks.annotations a) (sym (is_written-written names.classes ks.annotations known.annotations a) ∙ h) in
+      (t, found_writes names.classes ks.annotations known.annotations a t e)
 
-  pub fine_reads : (is : List Item) → all_fine ks is ≡ true → AllKnown (block_reads (statements is))
-  fine_reads [] h = none_known
-  fine_reads (item.Stmt s ∷ is) h =
-      let (f, g) = and_parts (is_fine_statement ks s) (all_fine ks is) h in
-      both_known (line_reads s) (block_reads (statements is)) (fine_line s f) (fine_reads is g)
-  fine_reads (_ ∷ is) h = absurd cc
+  annotation_tested : (a : Ann) (t : Ty) → Writes names.classes a t → is_written ks.annotations a ≡ true
+  annotation_tested a t h =
+      is_written-written names.classes ks.annotations known.annotations a ∙ some_there (written ks.annotations a) t (written_found names.classes ks.annotations known.annotations h)
 
-  -- ---- what fails it
+  -- ---- what passes the test is built
 
-  wider : (vs ws : List Word) → ((w : Word) → Contains vs w → Contains ws w) → Unknown vs → Unknown ws
-  wider vs ws h (w, c, f) = (w, h w c, f)
+  mutual
+    pub fine_built : (e : Expr) → is_fine ks e ≡ true → IsBuilt names e
+    fine_built (local w) h = known_name w h
+    fine_built (number p n) h = leb-true n 140737488355327 h
+    fine_built (text p t) h = tt
+    fine_built (truth p b) h = tt
+    fine_built (nil p) h = tt
+    fine_built (binary Add p a b) h = let f = and_parts (is_fine ks a) (is_fine ks b) h in (fine_built a f.0, fine_built b f.1)
+    fine_built (read a w) h = fine_built a h
+    fine_built (cast p a e) h = let f = and_parts (is_written ks.annotations a) (is_fine ks e) h in (annotation_there a f.0, fine_built e f.1)
+    fine_built (call p (local w) es) h =
+        let f = and_parts (is_some (known_class ks.classes w.text)) (are_fine ks es) h in
+        (class_there w (class_at names.classes w.text) (known_class ks.classes w.text) refl (same w) f.0, fine_all_built es f.1)
+    fine_built (call p f es) h = absurd cc
+    fine_built _ h = absurd cc
 
-  bad_expr : (e : Expr) → is_fine ks e ≡ false → (IsBuilt e → ⊥) ⊎ Unknown (reads e)
-  bad_expr (local w) h = inr (w, (0, omega arith, refl), h)
-  bad_expr (number p n) h = inl (λ b. let l = leb-false n 140737488355327 h in omega arith)
-  bad_expr (text p t) h = absurd cc
-  bad_expr (truth p b) h = absurd cc
-  bad_expr (nil p) h = absurd cc
-  bad_expr (binary Add p a b) h =
-      elim (and_cases (is_fine ks a) (is_fine ks b) h) [
-        | inl f ↦ elim (bad_expr a f) [ inl g ↦ inl (λ i. g i.0) | inr g ↦ inr (wider (reads a) (reads a ++ reads b) (Contains-append_left (reads a) (reads b)) g) ]
-        | inr f ↦ elim (bad_expr b f) [ inl g ↦ inl (λ i. g i.1) | inr g ↦ inr (wider (reads b) (reads a ++ reads b) (Contains-append_right (reads a) (reads b)) g) ]
-      ]
-  bad_expr _ h = inl (λ b. b)
+    pub fine_all_built : (es : Exprs) → are_fine ks es ≡ true → AreBuiltExprs names es
+    fine_all_built no_exprs h = tt
+    fine_all_built (more_exprs e es) h = let f = and_parts (is_fine ks e) (are_fine ks es) h in (fine_built e f.0, fine_all_built es f.1)
 
-  bad_line : (s : Stmt) → is_fine_statement ks s ≡ false → (IsBuiltLine s → ⊥) ⊎ Unknown (line_reads s)
-  bad_line (assign w ann e) h = elim (bad_expr e h) [ inl g ↦ inl (λ i. g i.1) | inr g ↦ inr g ]
-  bad_line (print p no_exprs) h = inl (λ b. b)
-  bad_line (print p (more_exprs e no_exprs)) h =
-      elim (bad_expr e h) [ inl g ↦ inl g | inr g ↦ inr (wider (reads e) (reads e ++ []) (append_nothing (reads e)) g) ]
-  bad_line (print p (more_exprs e (more_exprs f es))) h = inl (λ b. b)
-  bad_line _ h = inl (λ b. b)
+  line_built : (s : Stmt) → is_fine_line ks s ≡ true → IsBuiltLine names s
+  line_built (assign w ann e) h = let f = and_parts (is_some (type_of_name ks.values w.text)) (is_fine ks e) h in (known_name w f.0, fine_built e f.1)
+  line_built (print p es) h = fine_all_built es h
+  line_built (write o w e) h = let f = and_parts (is_fine ks o) (is_fine ks e) h in (fine_built o f.0, fine_built e f.1)
+  line_built _ h = absurd cc
 
-  pub bad_reads : (is : List Item) → all_fine ks is ≡ false → (AreBuilt is → ⊥) ⊎ Unknown (block_reads (statements is))
-  bad_reads [] h = absurd cc
-  bad_reads (item.Stmt s ∷ is) h =
-      let rest = block_reads (statements is) in
-      elim (and_cases (is_fine_statement ks s) (all_fine ks is) h) [
-        | inl f ↦ elim (bad_line s f) [ inl g ↦ inl (λ i. g i.0) | inr g ↦ inr (wider (line_reads s) (line_reads s ++ rest) (Contains-append_left (line_reads s) rest) g) ]
-        | inr f ↦ elim (bad_reads is f) [ inl g ↦ inl (λ i. g i.1) | inr g ↦ inr (wider rest (line_reads s ++ rest) (Contains-append_right (line_reads s) rest) g) ]
-      ]
-  bad_reads (_ ∷ is) h = inl (λ b. b)
+  pub fine_items : (is : List Item) → all_fine ks is ≡ true → AreBuilt names is
+  fine_items [] h = tt
+  fine_items (item.Class d ∷ is) h = fine_items is h
+  fine_items (item.Stmt s ∷ is) h = let f = and_parts (is_fine_line ks s) (all_fine ks is) h in (line_built s f.0, fine_items is f.1)
+  fine_items (item.Def d ∷ is) h = absurd cc
+
+  -- ---- and what is built passes it
+
+  mutual
+    pub built_fine : (e : Expr) → IsBuilt names e → is_fine ks e ≡ true
+    built_fine (local w) h = some_there (type_of_name ks.values w.text) h.0 (name_known w h.0 h.1)
+    built_fine (number p n) h = le-leb n 140737488355327 h
+    built_fine (text p t) h = refl
+    built_fine (truth p b) h = refl
+    built_fine (nil p) h = refl
+    built_fine (binary Add p a b) h = and_from (is_fine ks a) (is_fine ks b) (built_fine a h.0) (built_fine b h.1)
+    built_fine (read a w) h = built_fine a h
+    built_fine (cast p a e) h = and_from (is_written ks.annotations a) (is_fine ks e) (annotation_tested a h.0.0 h.0.1) (built_fine e h.1)
+    built_fine (call p (local w) es) h =
+        and_from (is_some (known_class ks.classes w.text)) (are_fine ks es)
+        (class_tested (class_at names.classes w.text) (known_class ks.classes w.text) h.0.0 h.0.2 (same w))
+        (all_built_fine es h.1)
+    built_fine (call p f es) h = absurd h
+    built_fine _ h = absurd h
+
+    pub all_built_fine : (es : Exprs) → AreBuiltExprs names es → are_fine ks es ≡ true
+    all_built_fine no_exprs h = refl
+    all_built_fine (more_exprs e es) h = and_from (is_fine ks e) (are_fine ks es) (built_fine e h.0) (all_built_fine es h.1)
+
+  built_line : (s : Stmt) → IsBuiltLine names s → is_fine_line ks s ≡ true
+  built_line (assign w ann e) h =
+      and_from (is_some (type_of_name ks.values w.text)) (is_fine ks e) (some_there (type_of_name ks.values w.text) h.0.0 (name_known w h.0.0 h.0.1)) (built_fine e h.1)
+  built_line (print p es) h = all_built_fine es h
+  built_line (write o w e) h = and_from (is_fine ks o) (is_fine ks e) (built_fine o h.0) (built_fine e h.1)
+  built_line _ h = absurd h
+
+  pub items_fine : (is : List Item) → AreBuilt names is → all_fine ks is ≡ true
+  items_fine [] h = refl
+  items_fine (item.Class d ∷ is) h = items_fine is h
+  items_fine (item.Stmt s ∷ is) h = and_from (is_fine_line ks s) (all_fine ks is) (built_line s h.0) (items_fine is h.1)
+  items_fine (item.Def d ∷ is) h = absurd h

@@ -1,231 +1,272 @@
--- What insertion gives is what typing with casts says, and what it refuses is the first fault of typing.
-use Rattle.std.proofs.Common.{◌≡◌, ℕ, inl, inr, true, false, cond, ◌&&◌, List, [], ◌∷◌, ◌++◌, length, Option, Some, None, Result, Ok, Err, refl, sym, ◌∙◌, ap, subst, append_assoc}
-use Rattle.std.specs.Prelude.{is_some, map, bytes_eq}
-use Rattle.std.specs.Option.{option_map}
-use Rattle.std.proofs.lemmas.Bool.{and_parts, and_cases}
-use Rattle.std.proofs.lemmas.List.{length-append}
+-- What insertion gives is what typing with casts says.
+use Rattle.std.proofs.Common.{◌≡◌, ℕ, inl, inr, true, false, cond, ◌&&◌, List, [], ◌∷◌, ◌++◌, length, Result, Ok, Err, refl, sym, ◌∙◌, ap, subst, append_assoc}
+use Rattle.std.specs.Prelude.{Option, Some, None, map, slice_get, nat_eq}
+use Rattle.std.proofs.lemmas.Bool.{and_parts, and_cases, eqb-true}
+use Rattle.std.proofs.lemmas.List.{length-append, append-nil}
 use Rattle.mono_list.proofs.Cases.{split}
-use Rattle.mono_syntax.specs.declared.leaf.Kind.{Kind}
 use Rattle.mono_syntax.specs.declared.leaf.Kind.TheVariants as kind
 use Rattle.mono_syntax.specs.declared.leaf.Op.TheVariants.{Add}
 use Rattle.mono_syntax.specs.declared.leaf.Place.{Place}
 use Rattle.mono_syntax.specs.declared.leaf.Site.{Site}
+use Rattle.mono_syntax.specs.declared.leaf.TyAt.{TyAt}
 use Rattle.mono_syntax.specs.declared.leaf.Word.{Word}
-use Rattle.mono_syntax.specs.declared.refusal.Reason.TheVariants.{Inconsistent}
+use Rattle.mono_syntax.specs.declared.refusal.Reason.TheVariants.{Arity}
 use Rattle.mono_syntax.specs.declared.refusal.Refusal.{Refusal}
-use Rattle.mono_syntax.specs.Expr.{Expr}
+use Rattle.mono_syntax.specs.Ann.{Ann}
+use Rattle.mono_syntax.specs.Expr.{Expr, Exprs, no_exprs, more_exprs}
 use Rattle.mono_syntax.specs.Expr as expr
-use Rattle.mono_syntax.specs.CastExpr.{CastExpr}
+use Rattle.mono_syntax.specs.CastExpr.{CastExpr, CastExprs}
 use Rattle.mono_syntax.specs.CastExpr as cast
-use Rattle.mono_syntax.specs.Ty.{Ty, dyn}
-use Rattle.mono_tree.specs.Meet.{IsMeet, AreApart}
+use Rattle.mono_syntax.specs.CastExprView.{cast_exprs}
+use Rattle.mono_syntax.specs.Ty.{Ty, dyn, int, bool, str, nil, fun, obj, Fields}
 use Rattle.mono_tree.specs.WellTyped.{type_of_name}
-use Rattle.script_casts.specs.declared.base_type.BaseType.{BaseType}
-use Rattle.script_casts.specs.declared.base_type.BaseType.TheVariants as base
-use Rattle.script_casts.specs.declared.inserting.Part.{Part}
-use Rattle.script_casts.specs.declared.inserting.Cast.{Cast}
-use Rattle.script_casts.specs.declared.names.Known.{Known}
-use Rattle.script_casts.specs.BaseTypes.{type_of, base_types, is_dyn, is_precise}
-use Rattle.script_casts.specs.KnownNames.{known_type, is_fine}
-use Rattle.script_casts.specs.Inserted.{and_then, site_of, plain, read_name, used, int_sum, dyn_sum, summed, inserted}
-use Rattle.script_casts.specs.Lines.{named}
-use Rattle.script_casts.specs.Elaborates.{IsSiteFor, Uses, as_it_is, with_cast, Elaborates, of_number, of_text, of_truth, of_nil, of_name, of_dyn_sum, of_int_sum}
-use Rattle.script_casts.specs.SourcePlaces.{place_of}
-use Rattle.script_casts.specs.TypingFaults.{TypingFault, in_first, in_second, at_first, at_second}
-use Rattle.script_casts.proofs.BaseLaws.{precise_of, imprecise_of, dyn_of, not_dyn_of, type_position, meet_precise, meet_dyn, apart_of}
+use Rattle.typing_rules.specs.Elaborates.{IsSiteFor, Uses, Elaborates, of_number, of_text, of_truth, of_nil, of_name, of_dyn_sum, of_int_sum, of_dyn_read, of_read, of_cast, of_new, ElaborateAll, of_none, of_more}
+use Rattle.typing_rules.specs.Members.{Names, Numbered, class_at, field_type}
+use Rattle.typing_rules.specs.SourcePlaces.{place_of}
+use Rattle.typing_rules.specs.TypingFaults.{at}
+use Rattle.script_casts.specs.declared.known.Known.{Known}
+use Rattle.script_casts.specs.declared.known.KnownClass.{KnownClass}
+use Rattle.script_casts.specs.declared.objects.Arguments.{Arguments}
+use Rattle.script_casts.specs.declared.objects.Parts.{Parts}
+use Rattle.script_casts.specs.declared.sites.Cast.{Cast}
+use Rattle.script_casts.specs.declared.sites.Part.{Part}
+use Rattle.script_casts.specs.declared.sites.Table.{Table}
+use Rattle.script_casts.specs.Annotations.{written}
+use Rattle.script_casts.specs.KnownNames.{known_class}
+use Rattle.script_casts.specs.TypeList.{is_dyn}
+use Rattle.script_casts.specs.Inserted.{and_then, plain, used, cast_to, read_name, int_operator, int_sum, dyn_sum, summed, read_typed, read_member, used_from, object_of, called, inserted, inserted_all}
+use Rattle.script_casts.specs.Lines.{expr_of_part}
+use Rattle.script_casts.proofs.AnnotationLaws.{found_writes}
+use Rattle.script_casts.proofs.Classes.{IsKnownClass, IsKnown, SameClass, same_class}
+use Rattle.script_casts.proofs.PartLaws.{type_of_part, AreAt, all_used_ok}
+use Rattle.script_casts.proofs.SiteLaws.{plain_site, fitted_ok, used_ok}
+use Rattle.script_casts.proofs.Steps.{ok_is, err_ok, then_ok}
+use Rattle.script_casts.proofs.TypeListLaws.{Keeps, Grows, stays, grows_on}
 
-pub ok_is : {A : Type 0} {x y : A} → ◌≡◌ {A = Result A Refusal} (Ok x) (Ok y) → x ≡ y
-ok_is e = cc
+-- the types stay in the second list, in which `Dyn` has this position
+pub record Within (d : TyAt) (ts us : List Ty) : Type 0 where
+  pub keeps : Keeps ts us
+  pub dynamic : slice_get us d.0 ≡ Some dyn
 
-pub err_ok : {A : Type 0} {x : A} {r : Refusal} → ◌≡◌ {A = Result A Refusal} (Err r) (Ok x) → ⊥
-err_ok e = cc
+pub within_before : (d : TyAt) (ts us vs : List Ty) → Grows ts us → Within d us vs → Within d ts vs
+within_before d ts us vs g w = record { keeps = λ k t e. w.keeps k t (g.keeps k t e); dynamic = w.dynamic }
 
-pub ok_err : {A : Type 0} {x : A} {r : Refusal} → ◌≡◌ {A = Result A Refusal} (Ok x) (Err r) → ⊥
-ok_err e = cc
+pub is_dyn_is : (t : Ty) → is_dyn t ≡ true → t ≡ dyn
+is_dyn_is dyn h = refl
+is_dyn_is _ h = absurd cc
 
-pub err_is : {A : Type 0} {r q : Refusal} → ◌≡◌ {A = Result A Refusal} (Err r) (Err q) → r ≡ q
-err_is e = cc
+pub not_dyn : (t : Ty) → is_dyn t ≡ false → t ≡ dyn → ⊥
+not_dyn dyn h e = absurd cc
+not_dyn _ h e = cc
 
--- two steps gave a value
-pub then_ok : {A B : Type 0} (r : Result A Refusal) (f : A → Result B Refusal) (y : B) → and_then r f ≡ Ok y → (x : A) × (r ≡ Ok x) × (f x ≡ Ok y)
-then_ok (Ok x) f y e = (x, refl, e)
-then_ok (Err r) f y e = absurd (err_ok e)
+pub not_both_dyn : (s t : Ty) → (is_dyn s && is_dyn t) ≡ false → s ≡ dyn → t ≡ dyn → ⊥
+not_both_dyn s t e h k = elim (and_cases (is_dyn s) (is_dyn t) e) [ inl f ↦ not_dyn s f h | inr f ↦ not_dyn t f k ]
 
--- two steps were refused: the first was, or the second
-pub data ThenErr {A B : Type 0} (r : Result A Refusal) (f : A → Result B Refusal) (q : Refusal) : Type 0 where
-  first_err : r ≡ Err q → ThenErr r f q
-  second_err : (x : A) → r ≡ Ok x → f x ≡ Err q → ThenErr r f q
+module _ (names : Names) (ks : Known) (known : IsKnown names ks) where
+  -- x is e with its casts, behind the sites of b
+  pub record IsInserted (e : Expr) (b : Table) (x : Cast) : Type 0 where
+    pub place : x.part.place ≡ place_of e
+    pub grows : Grows b.types x.table.types
+    pub elaborates : (types : List Ty) → Within ks.dynamic x.table.types types → Elaborates types names b.sites e x.part.ty x.part.expr x.table.sites
 
-pub then_err : {A B : Type 0} (r : Result A Refusal) (f : A → Result B Refusal) (q : Refusal) → and_then r f ≡ Err q → ThenErr r f q
-then_err (Ok x) f q e = second_err x refl e
-then_err (Err r) f q e = first_err (ap (λ (z : Refusal). Err z) (err_is e))
+  inserted_so : (e : Expr) (b : Table) (x y : Cast) → ◌≡◌ {A = Result Cast Refusal} (Ok x) (Ok y) → IsInserted e b x → IsInserted e b y
+  inserted_so e b x y q h = subst (λ (z : Cast). IsInserted e b z) (ok_is q) h
 
-pub is_site : (p : Place) (k : Kind) (s t : BaseType) → IsSiteFor base_types p k (type_of s) (type_of t) (site_of p k s t)
-is_site p k s t = record { place = refl; kind = refl; source = type_position s; target = type_position t }
+  -- the expressions with their casts, behind parts that are done
+  pub record AreInserted (done : List Part) (es : Exprs) (b : Table) (x : Parts) : Type 0 where
+    pub more : List Part
+    pub all : x.parts ≡ done ++ more
+    pub places : AreAt es more
+    pub grows : Grows b.types x.table.types
+    pub elaborate : (types : List Ty) → Within ks.dynamic x.table.types types → ElaborateAll types names b.sites es (map type_of_part more) (cast_exprs (map expr_of_part more)) x.table.sites
 
--- ---- names
+  -- ---- names
 
-pub type_of_name-named : (ks : List Known) (x : List ℕ) → type_of_name (map named ks) x ≡ option_map type_of (known_type ks x)
-type_of_name-named [] x = refl
-type_of_name-named (k ∷ ks) x =
-    split (bytes_eq k.name x) (λ b. cond b (Some (type_of k.ty)) (type_of_name (map named ks) x) ≡ option_map type_of (cond b (Some k.ty) (known_type ks x)))
-    (λ t. refl)
-    (λ f. type_of_name-named ks x)
+  name_ok : (w : Word) (b : Table) (x : Cast) (o : Option Ty) → type_of_name ks.values w.text ≡ o → read_name ks.dynamic o w b ≡ Ok x → IsInserted (expr.local w) b x
+  name_ok w b x None k e = absurd (err_ok e)
+  name_ok w b x (Some t) k e =
+      let there : type_of_name names.values w.text ≡ Some t = ap (λ vs. type_of_name vs w.text) (sym known.values) ∙ k in
+      inserted_so (expr.local w) b _ x e
+      (record { place = refl; grows = stays b.types; elaborates = λ types h. of_name there (plain_site types w.place kind.Name ks.dynamic h.dynamic) })
 
-pub known_named : (ks : List Known) (x : List ℕ) (t : BaseType) → known_type ks x ≡ Some t → type_of_name (map named ks) x ≡ Some (type_of t)
-known_named ks x t e = type_of_name-named ks x ∙ ap (option_map type_of) e
+  -- ---- sums
 
--- ---- uses
+  abbrev Sum : Place → Expr → Expr → Expr
+  Sum p a b = expr.binary Add p a b
 
-abbrev pub refused_at : Place → Refusal
-refused_at q = record { place = q; reason = Inconsistent }
+  uses_at : (a : Expr) (b c : Table) (t : Ty) (u x : Cast) → IsInserted a b u → used u.part t c ≡ Ok x → (types : List Ty) → Keeps x.table.types types
+      → Uses types c.sites (place_of a) u.part.ty u.part.expr t x.part.expr x.table.sites
+  uses_at a b c t u x h e types k =
+      subst (λ (p : Place). Uses types c.sites p u.part.ty u.part.expr t x.part.expr x.table.sites) h.place ((used_ok u.part t c x e).uses types k)
 
-abbrev with_fit : Part → BaseType → List Site → Result Cast Refusal
-with_fit a t ss = plain (cast.fit (length ss) a.expr) a.place t (ss ++ site_of a.place kind.Cast a.ty t ∷ [])
-
-pub record UsedSo (a : Part) (t : BaseType) (ss : List Site) (x : Cast) : Type 0 where
-  pub uses : Uses base_types ss a.place (type_of a.ty) a.expr (type_of t) x.part.expr x.sites
-  pub place : x.part.place ≡ a.place
-  pub meet : (m : Ty) × IsMeet m (type_of a.ty) (type_of t)
-
-used_so : (a : Part) (t : BaseType) (ss : List Site) (x y : Cast) → ◌≡◌ {A = Result Cast Refusal} (Ok x) (Ok y) → UsedSo a t ss x → UsedSo a t ss y
-used_so a t ss x y e h = subst (λ (z : Cast). UsedSo a t ss z) (ok_is e) h
-
-pub used_ok : (a : Part) (t : BaseType) (ss : List Site) (x : Cast) → used a t ss ≡ Ok x → UsedSo a t ss x
-used_ok a t ss x =
-    split (is_precise a.ty t) (λ b. cond b (Ok (record { part = a; sites = ss })) (cond (is_dyn a.ty) (with_fit a t ss) (Err (refused_at a.place))) ≡ Ok x → UsedSo a t ss x)
-    (λ y e. used_so a t ss _ x e (record { uses = as_it_is (precise_of a.ty t y); place = refl; meet = (type_of a.ty, meet_precise a.ty t y) }))
-    (λ n.
-    split (is_dyn a.ty) (λ b. cond b (with_fit a t ss) (Err (refused_at a.place)) ≡ Ok x → UsedSo a t ss x)
-    (λ y e. used_so a t ss _ x e (record { uses = with_cast (meet_dyn a.ty t y) (imprecise_of a.ty t n) (is_site a.place kind.Cast a.ty t); place = refl; meet = (type_of t, meet_dyn a.ty t y) }))
-    (λ m e. absurd (err_ok e)))
-
-pub used_err : (a : Part) (t : BaseType) (ss : List Site) (r : Refusal) → used a t ss ≡ Err r → (r ≡ refused_at a.place) × AreApart (type_of a.ty) (type_of t)
-used_err a t ss r =
-    split (is_precise a.ty t) (λ b. cond b (Ok (record { part = a; sites = ss })) (cond (is_dyn a.ty) (with_fit a t ss) (Err (refused_at a.place))) ≡ Err r → (r ≡ refused_at a.place) × AreApart (type_of a.ty) (type_of t))
-    (λ y e. absurd (ok_err e))
-    (λ n.
-    split (is_dyn a.ty) (λ b. cond b (with_fit a t ss) (Err (refused_at a.place)) ≡ Err r → (r ≡ refused_at a.place) × AreApart (type_of a.ty) (type_of t))
-    (λ y e. absurd (ok_err e))
-    (λ m e. (sym (err_is e), apart_of a.ty t n m)))
-
--- ---- expressions
-
--- x is e with its casts
-pub record IsInserted (ks : List Known) (e : Expr) (ss : List Site) (x : Cast) : Type 0 where
-  pub elaborates : Elaborates base_types (map named ks) ss e (type_of x.part.ty) x.part.expr x.sites
-  pub place : x.part.place ≡ place_of e
-
-not_both : (s t : BaseType) → (is_dyn s && is_dyn t) ≡ false → type_of s ≡ dyn → type_of t ≡ dyn → ⊥
-not_both s t e h k = elim (and_cases (is_dyn s) (is_dyn t) e) [ inl f ↦ not_dyn_of s f h | inr f ↦ not_dyn_of t f k ]
-
-module _ (ks : List Known) where
-  inserted_so : (e : Expr) (ss : List Site) (x y : Cast) → ◌≡◌ {A = Result Cast Refusal} (Ok x) (Ok y) → IsInserted ks e ss x → IsInserted ks e ss y
-  inserted_so e ss x y q h = subst (λ (z : Cast). IsInserted ks e ss z) (ok_is q) h
-
-  uses_at : (a : Expr) (us vs : List Site) (t : BaseType) (u x : Cast) → IsInserted ks a us u → used u.part t vs ≡ Ok x
-      → Uses base_types vs (place_of a) (type_of u.part.ty) u.part.expr (type_of t) x.part.expr x.sites
-  uses_at a us vs t u x h e =
-      subst (λ (p : Place). Uses base_types vs p (type_of u.part.ty) u.part.expr (type_of t) x.part.expr x.sites) h.place (used_ok u.part t vs x e).uses
-
-  dyn_sum_ok : (p : Place) (a b : Expr) (ss : List Site) (u v x : Cast) → IsInserted ks a ss u → IsInserted ks b u.sites v
-      → is_dyn u.part.ty ≡ true → is_dyn v.part.ty ≡ true → dyn_sum p u.part v.part v.sites ≡ Ok x → IsInserted ks (expr.binary Add p a b) ss x
-  dyn_sum_ok p a b ss u v x h k i j e =
-      let left = subst (λ (t : Ty). Elaborates base_types (map named ks) ss a t u.part.expr u.sites) (dyn_of u.part.ty i) h.elaborates in
-      let right = subst (λ (t : Ty). Elaborates base_types (map named ks) u.sites b t v.part.expr v.sites) (dyn_of v.part.ty j) k.elaborates in
-      inserted_so (expr.binary Add p a b) ss _ x e (record {
-        elaborates = rw (length-append, append_assoc) (of_dyn_sum left right (is_site p kind.Operator base.Dyn base.Dyn) (is_site p kind.Arithmetic base.Dyn base.Dyn));
+  dyn_sum_ok : (p : Place) (a b : Expr) (c : Table) (u v x : Cast) → IsInserted a c u → IsInserted b u.table v → is_dyn u.part.ty ≡ true → is_dyn v.part.ty ≡ true
+      → dyn_sum ks.dynamic p u.part v.part v.table ≡ Ok x → IsInserted (Sum p a b) c x
+  dyn_sum_ok p a b c u v x h k i j e =
+      inserted_so (Sum p a b) c _ x e
+      (record {
         place = h.place;
-      })
-
-  int_sum_ok : (p : Place) (a b : Expr) (ss : List Site) (u v x : Cast) → IsInserted ks a ss u → IsInserted ks b u.sites v
-      → (is_dyn u.part.ty && is_dyn v.part.ty) ≡ false → int_sum p u.part v.part v.sites ≡ Ok x → IsInserted ks (expr.binary Add p a b) ss x
-  int_sum_ok p a b ss u v x h k n e =
-      let first = then_ok (used u.part base.Int v.sites) _ x e in
-      let second = then_ok (used v.part base.Int first.0.sites) _ x first.2 in
-      inserted_so (expr.binary Add p a b) ss _ x second.2 (record {
+        grows = grows_on c.types u.table.types v.table.types h.grows k.grows;
         elaborates =
-            of_int_sum h.elaborates k.elaborates (not_both u.part.ty v.part.ty n)
-            (uses_at a ss v.sites base.Int u first.0 h first.1) (uses_at b u.sites first.0.sites base.Int v second.0 k second.1)
-            (is_site p kind.Arithmetic base.Dyn base.Dyn);
-        place = (used_ok u.part base.Int v.sites first.0 first.1).place ∙ h.place;
+            λ types w.
+            let left = subst (λ (t : Ty). Elaborates types names c.sites a t u.part.expr u.table.sites) (is_dyn_is u.part.ty i) (h.elaborates types (within_before ks.dynamic u.table.types v.table.types types k.grows w)) in
+            let right = subst (λ (t : Ty). Elaborates types names u.table.sites b t v.part.expr v.table.sites) (is_dyn_is v.part.ty j) (k.elaborates types w) in
+            rw (length-append, append_assoc)
+            (of_dyn_sum left right (plain_site types p kind.Operator ks.dynamic w.dynamic) (plain_site types p kind.Arithmetic ks.dynamic w.dynamic));
       })
 
-  sum_ok : (p : Place) (a b : Expr) (ss : List Site) (u v x : Cast) → IsInserted ks a ss u → IsInserted ks b u.sites v
-      → summed p u.part v.part v.sites ≡ Ok x → IsInserted ks (expr.binary Add p a b) ss x
-  sum_ok p a b ss u v x h k =
-      split (is_dyn u.part.ty && is_dyn v.part.ty) (λ z. cond z (dyn_sum p u.part v.part v.sites) (int_sum p u.part v.part v.sites) ≡ Ok x → IsInserted ks (expr.binary Add p a b) ss x)
-      (λ y. let d = and_parts (is_dyn u.part.ty) (is_dyn v.part.ty) y in dyn_sum_ok p a b ss u v x h k d.0 d.1)
-      (λ n. int_sum_ok p a b ss u v x h k n)
+  int_sum_ok : (p : Place) (a b : Expr) (c : Table) (u v x : Cast) → IsInserted a c u → IsInserted b u.table v → (is_dyn u.part.ty && is_dyn v.part.ty) ≡ false
+      → int_sum ks.dynamic p u.part v.part v.table ≡ Ok x → IsInserted (Sum p a b) c x
+  int_sum_ok p a b c u v x h k n e =
+      let first = then_ok (used u.part int v.table) (λ (y : Cast). and_then (used v.part int y.table) (λ z. int_operator ks.dynamic p y.part z.part z.table)) x e in
+      let second = then_ok (used v.part int first.0.table) (λ (z : Cast). int_operator ks.dynamic p first.0.part z.part z.table) x first.2 in
+      let left = used_ok u.part int v.table first.0 first.1 in
+      let right = used_ok v.part int first.0.table second.0 second.1 in
+      let after_left = grows_on v.table.types first.0.table.types second.0.table.types left.grows right.grows in
+      let after_right = grows_on u.table.types v.table.types second.0.table.types k.grows after_left in
+      inserted_so (Sum p a b) c _ x second.2
+      (record {
+        place = left.place ∙ h.place;
+        grows = grows_on c.types u.table.types second.0.table.types h.grows after_right;
+        elaborates =
+            λ types w.
+            of_int_sum (h.elaborates types (within_before ks.dynamic u.table.types second.0.table.types types after_right w))
+            (k.elaborates types (within_before ks.dynamic v.table.types second.0.table.types types after_left w))
+            (not_both_dyn u.part.ty v.part.ty n)
+            (uses_at a c v.table int u first.0 h first.1 types (within_before ks.dynamic first.0.table.types second.0.table.types types right.grows w).keeps)
+            (uses_at b u.table first.0.table int v second.0 k second.1 types w.keeps)
+            (plain_site types p kind.Arithmetic ks.dynamic w.dynamic);
+      })
 
-  -- the second part of a sum, and the sum
-  abbrev second_part : Place → Expr → Cast → Result Cast Refusal
-  second_part p b u = and_then (inserted ks b u.sites) (λ v. summed p u.part v.part v.sites)
+  sum_ok : (p : Place) (a b : Expr) (c : Table) (u v x : Cast) → IsInserted a c u → IsInserted b u.table v → summed ks.dynamic p u.part v.part v.table ≡ Ok x → IsInserted (Sum p a b) c x
+  sum_ok p a b c u v x h k =
+      split (is_dyn u.part.ty && is_dyn v.part.ty) (λ z. cond z (dyn_sum ks.dynamic p u.part v.part v.table) (int_sum ks.dynamic p u.part v.part v.table) ≡ Ok x → IsInserted (Sum p a b) c x)
+      (λ y. let d = and_parts (is_dyn u.part.ty) (is_dyn v.part.ty) y in dyn_sum_ok p a b c u v x h k d.0 d.1)
+      (λ n. int_sum_ok p a b c u v x h k n)
 
-  abbrev whole_sum : Place → Cast → Cast → Result Cast Refusal
-  whole_sum p u v = summed p u.part v.part v.sites
+  -- ---- fields
 
-  name_ok : (w : Word) (ss : List Site) (x : Cast) (o : Option BaseType) → known_type ks w.text ≡ o → read_name o w ss ≡ Ok x → IsInserted ks (expr.local w) ss x
-  name_ok w ss x None k e = absurd (err_ok e)
-  name_ok w ss x (Some t) k e =
-      inserted_so (expr.local w) ss _ x e (record { elaborates = of_name (known_named ks w.text t k) (is_site w.place kind.Name base.Dyn base.Dyn); place = refl })
+  typed_ok : (a : Expr) (w : Word) (b : Table) (u x : Cast) (fs : Fields) (o : Option Ty) → IsInserted a b u → u.part.ty ≡ obj fs → field_type fs w.text ≡ o
+      → read_typed o u.part.expr u.part.place w u.table ≡ Ok x → IsInserted (expr.read a w) b x
+  typed_ok a w b u x fs None h k f e = absurd (err_ok e)
+  typed_ok a w b u x fs (Some t) h k f e =
+      inserted_so (expr.read a w) b _ x e
+      (record {
+        place = h.place;
+        grows = h.grows;
+        elaborates = λ types i. of_read (subst (λ (s : Ty). Elaborates types names b.sites a s u.part.expr u.table.sites) k (h.elaborates types i)) f;
+      })
 
-  pub inserted_ok : (e : Expr) (ss : List Site) (x : Cast) → inserted ks e ss ≡ Ok x → IsInserted ks e ss x
-  inserted_ok (expr.local w) ss x q = name_ok w ss x (known_type ks w.text) refl q
-  inserted_ok (expr.number p n) ss x q = inserted_so (expr.number p n) ss _ x q (record { elaborates = of_number; place = refl })
-  inserted_ok (expr.text p t) ss x q = inserted_so (expr.text p t) ss _ x q (record { elaborates = of_text; place = refl })
-  inserted_ok (expr.truth p b) ss x q = inserted_so (expr.truth p b) ss _ x q (record { elaborates = of_truth; place = refl })
-  inserted_ok (expr.nil p) ss x q = inserted_so (expr.nil p) ss _ x q (record { elaborates = of_nil; place = refl })
-  inserted_ok (expr.binary Add p a b) ss x q =
-      let u = then_ok (inserted ks a ss) (second_part p b) x q in
-      let v = then_ok (inserted ks b u.0.sites) (whole_sum p u.0) x u.2 in
-      sum_ok p a b ss u.0 v.0 x (inserted_ok a ss u.0 u.1) (inserted_ok b u.0.sites v.0 v.1) v.2
-  inserted_ok _ ss x q = absurd (err_ok q)
+  member_ok : (a : Expr) (w : Word) (b : Table) (u x : Cast) (s : Ty) → IsInserted a b u → u.part.ty ≡ s → read_member ks.dynamic s u.part.expr u.part.place w u.table ≡ Ok x
+      → IsInserted (expr.read a w) b x
+  member_ok a w b u x dyn h k e =
+      inserted_so (expr.read a w) b _ x e
+      (record {
+        place = h.place;
+        grows = h.grows;
+        elaborates =
+            λ types i.
+            of_dyn_read (subst (λ (s : Ty). Elaborates types names b.sites a s u.part.expr u.table.sites) k (h.elaborates types i)) (plain_site types w.place kind.Member ks.dynamic i.dynamic);
+      })
+  member_ok a w b u x (obj fs) h k e = typed_ok a w b u x fs (field_type fs w.text) h k refl e
+  member_ok a w b u x int h k e = absurd (err_ok e)
+  member_ok a w b u x bool h k e = absurd (err_ok e)
+  member_ok a w b u x str h k e = absurd (err_ok e)
+  member_ok a w b u x nil h k e = absurd (err_ok e)
+  member_ok a w b u x (fun ps r) h k e = absurd (err_ok e)
 
-  -- ---- refusals
+  -- ---- written casts
 
-  abbrev pub IsRefusedAt : Expr → Refusal → Type 0
-  IsRefusedAt e r = (q : Place) × (r ≡ refused_at q) × TypingFault base_types (map named ks) e q
+  cast_ok : (p : Place) (note : Ann) (a : Expr) (b : Table) (u x : Cast) (o : Option Ty) → IsInserted a b u → written ks.annotations note ≡ o → cast_to o p u.part u.table ≡ Ok x
+      → IsInserted (expr.cast p note a) b x
+  cast_ok p note a b u x None h k e = absurd (err_ok e)
+  cast_ok p note a b u x (Some t) h k e =
+      let i = fitted_ok p u.part t u.table x e in
+      let writes = found_writes names.classes ks.annotations known.annotations note t k in
+      record {
+        place = i.place;
+        grows = grows_on b.types u.table.types x.table.types h.grows i.site.grows;
+        elaborates =
+            λ types w.
+            subst (λ (s : Ty). Elaborates types names b.sites (expr.cast p note a) s x.part.expr x.table.sites) (sym i.type)
+            (subst (λ (c : CastExpr). Elaborates types names b.sites (expr.cast p note a) t c x.table.sites) (sym i.expr)
+            (subst (λ (ss : List Site). Elaborates types names b.sites (expr.cast p note a) t (cast.fit (length u.table.sites) u.part.expr) ss) (sym i.site.sites)
+            (of_cast (h.elaborates types (within_before ks.dynamic u.table.types x.table.types types i.site.grows w)) writes i.meet.1
+            (subst (λ (q : Place). IsSiteFor types q kind.Cast u.part.ty t i.site.site) h.place (i.site.stands types w.keeps)))));
+      }
 
-  at_place : (p q : Place) (r : Refusal) → p ≡ q → r ≡ refused_at p → r ≡ refused_at q
-  at_place p q r h e = e ∙ ap refused_at h
+  -- ---- objects
 
-  int_sum_err : (p : Place) (a b : Expr) (ss : List Site) (u v : Cast) (r : Refusal) → IsInserted ks a ss u → IsInserted ks b u.sites v
-      → int_sum p u.part v.part v.sites ≡ Err r → IsRefusedAt (expr.binary Add p a b) r
-  int_sum_err p a b ss u v r h k e =
-      elim (then_err (used u.part base.Int v.sites) _ r e) [
-        | first_err f ↦ (let c = used_err u.part base.Int v.sites r f in (place_of a, at_place u.part.place (place_of a) r h.place c.0, at_first h.elaborates k.elaborates c.1))
-        | second_err x f g ↦ elim (then_err (used v.part base.Int x.sites) _ r g) [
-          | first_err i ↦ (let c = used_err v.part base.Int x.sites r i in (place_of b, at_place v.part.place (place_of b) r k.place c.0, at_second h.elaborates k.elaborates (used_ok u.part base.Int v.sites x f).meet.1 c.1))
-          | second_err y i j ↦ absurd (ok_err j)
-        ]
-      ]
+  new_ok : (p : Place) (w : Word) (es : Exprs) (b : Table) (xs : Parts) (x : Cast) (m : Numbered) (k : KnownClass) → AreInserted [] es b xs → class_at names.classes w.text ≡ Some m
+      → IsKnownClass names.classes m.number m.class k → length xs.parts ≡ length k.fields
+      → and_then (used_from (record { exprs = []; table = xs.table }) xs.parts k.fields) (λ u. plain (cast.make k.number (cast_exprs u.exprs)) w.place k.ty u.table) ≡ Ok x
+      → IsInserted (expr.call p (expr.local w) es) b x
+  new_ok p w es b xs x m k h c i l e =
+      let none : Arguments = record { exprs = []; table = xs.table } in
+      let u = then_ok (used_from none xs.parts k.fields) (λ (u : Arguments). plain (cast.make k.number (cast_exprs u.exprs)) w.place k.ty u.table) x e in
+      let places = subst (λ (z : List Part). AreAt es z) (sym h.all) h.places in
+      let used = all_used_ok none es xs.parts k.fields u.0 places l u.1 in
+      inserted_so (expr.call p (expr.local w) es) b _ x u.2
+      (record {
+        place = refl;
+        grows = grows_on b.types xs.table.types u.0.table.types h.grows used.grows;
+        elaborates =
+            λ types v.
+            let parts = h.elaborate types (within_before ks.dynamic xs.table.types u.0.table.types types used.grows v) in
+            let all = subst (λ (z : List Part). ElaborateAll types names b.sites es (map type_of_part z) (cast_exprs (map expr_of_part z)) xs.table.sites) (sym h.all) parts in
+            subst (λ (n : ℕ). Elaborates types names b.sites (expr.call p (expr.local w) es) k.ty (cast.make n (cast_exprs u.0.exprs)) u.0.table.sites) (sym i.number)
+            (subst (λ (z : List CastExpr). Elaborates types names b.sites (expr.call p (expr.local w) es) k.ty (cast.make m.number (cast_exprs z)) u.0.table.sites) (sym used.all)
+            (of_new c i.declared i.type all (used.uses types v.keeps)));
+      })
 
-  sum_err : (p : Place) (a b : Expr) (ss : List Site) (u v : Cast) (r : Refusal) → IsInserted ks a ss u → IsInserted ks b u.sites v
-      → summed p u.part v.part v.sites ≡ Err r → IsRefusedAt (expr.binary Add p a b) r
-  sum_err p a b ss u v r h k =
-      split (is_dyn u.part.ty && is_dyn v.part.ty) (λ z. cond z (dyn_sum p u.part v.part v.sites) (int_sum p u.part v.part v.sites) ≡ Err r → IsRefusedAt (expr.binary Add p a b) r)
-      (λ y e. absurd (ok_err e))
-      (λ n. int_sum_err p a b ss u v r h k)
+  class_ok : (p : Place) (w : Word) (es : Exprs) (b : Table) (xs : Parts) (x : Cast) (m : Option Numbered) (k : Option KnownClass) → AreInserted [] es b xs
+      → class_at names.classes w.text ≡ m → SameClass names.classes m k → object_of k p w.place xs.parts xs.table ≡ Ok x → IsInserted (expr.call p (expr.local w) es) b x
+  class_ok p w es b xs x m None h c i = λ e. absurd (err_ok e)
+  class_ok p w es b xs x None (Some k) h c i = λ e. absurd i
+  class_ok p w es b xs x (Some m) (Some k) h c i =
+      split (nat_eq (length xs.parts) (length k.fields)) (λ z. cond z (and_then (used_from (record { exprs = []; table = xs.table }) xs.parts k.fields) (λ u. plain (cast.make k.number (cast_exprs u.exprs)) w.place k.ty u.table)) (Err (at p Arity)) ≡ Ok x → IsInserted (expr.call p (expr.local w) es) b x)
+      (λ y e. new_ok p w es b xs x m k h c i (eqb-true (length xs.parts) (length k.fields) y) e)
+      (λ n e. absurd (err_ok e))
 
-  name_err : (w : Word) (ss : List Site) (r : Refusal) (o : Option BaseType) → is_some o ≡ true → read_name o w ss ≡ Err r → ⊥
-  name_err w ss r None k e = cc
-  name_err w ss r (Some t) k e = ok_err e
+  -- ---- expressions
 
-  -- a fine expression is refused for a fault of typing alone
-  pub inserted_err : (e : Expr) (ss : List Site) (r : Refusal) → is_fine ks e ≡ true → inserted ks e ss ≡ Err r → IsRefusedAt e r
-  inserted_err (expr.local w) ss r f q = absurd (name_err w ss r (known_type ks w.text) f q)
-  inserted_err (expr.number p n) ss r f q = absurd (ok_err q)
-  inserted_err (expr.text p t) ss r f q = absurd (ok_err q)
-  inserted_err (expr.truth p b) ss r f q = absurd (ok_err q)
-  inserted_err (expr.nil p) ss r f q = absurd (ok_err q)
-  inserted_err (expr.binary Add p a b) ss r f q =
-      let fs = and_parts (is_fine ks a) (is_fine ks b) f in
-      elim (then_err (inserted ks a ss) (second_part p b) r q) [
-        | first_err e ↦ (let h = inserted_err a ss r fs.0 e in (h.0, h.1, in_first h.2))
-        | second_err u e g ↦ elim (then_err (inserted ks b u.sites) (whole_sum p u) r g) [
-          | first_err i ↦ (let h = inserted_err b u.sites r fs.1 i in (h.0, h.1, in_second (inserted_ok a ss u e).elaborates h.2))
-          | second_err v i j ↦ sum_err p a b ss u v r (inserted_ok a ss u e) (inserted_ok b u.sites v i) j
-        ]
-      ]
-  inserted_err _ ss r f q = absurd cc
+  mutual
+    pub inserted_ok : (e : Expr) (b : Table) (x : Cast) → inserted ks e b ≡ Ok x → IsInserted e b x
+    inserted_ok (expr.local w) b x q = name_ok w b x (type_of_name ks.values w.text) refl q
+    inserted_ok (expr.number p n) b x q = inserted_so (expr.number p n) b _ x q (record { place = refl; grows = stays b.types; elaborates = λ types w. of_number })
+    inserted_ok (expr.text p t) b x q = inserted_so (expr.text p t) b _ x q (record { place = refl; grows = stays b.types; elaborates = λ types w. of_text })
+    inserted_ok (expr.truth p v) b x q = inserted_so (expr.truth p v) b _ x q (record { place = refl; grows = stays b.types; elaborates = λ types w. of_truth })
+    inserted_ok (expr.nil p) b x q = inserted_so (expr.nil p) b _ x q (record { place = refl; grows = stays b.types; elaborates = λ types w. of_nil })
+    inserted_ok (expr.binary Add p y z) b x q =
+        let u = then_ok (inserted ks y b) (λ (u : Cast). and_then (inserted ks z u.table) (λ v. summed ks.dynamic p u.part v.part v.table)) x q in
+        let v = then_ok (inserted ks z u.0.table) (λ (v : Cast). summed ks.dynamic p u.0.part v.part v.table) x u.2 in
+        sum_ok p y z b u.0 v.0 x (inserted_ok y b u.0 u.1) (inserted_ok z u.0.table v.0 v.1) v.2
+    inserted_ok (expr.read y w) b x q =
+        let u = then_ok (inserted ks y b) (λ (u : Cast). read_member ks.dynamic u.part.ty u.part.expr u.part.place w u.table) x q in
+        member_ok y w b u.0 x u.0.part.ty (inserted_ok y b u.0 u.1) refl u.2
+    inserted_ok (expr.cast p a y) b x q =
+        let u = then_ok (inserted ks y b) (λ (u : Cast). cast_to (written ks.annotations a) p u.part u.table) x q in
+        cast_ok p a y b u.0 x (written ks.annotations a) (inserted_ok y b u.0 u.1) refl u.2
+    inserted_ok (expr.call p (expr.local w) es) b x q =
+        let u = then_ok (inserted_all ks [] es b) (λ (u : Parts). called ks.classes (expr.local w) p u) x q in
+        class_ok p w es b u.0 x (class_at names.classes w.text) (known_class ks.classes w.text) (all_inserted_ok [] es b u.0 u.1) refl
+        (same_class names.classes 0 names.classes ks.classes w.text known.classes) u.2
+    inserted_ok (expr.call p f es) b x q =
+        let u = then_ok (inserted_all ks [] es b) (λ (u : Parts). called ks.classes f p u) x q in
+        absurd (err_ok u.2)
+    inserted_ok _ b x q = absurd (err_ok q)
+
+    pub all_inserted_ok : (done : List Part) (es : Exprs) (b : Table) (x : Parts) → inserted_all ks done es b ≡ Ok x → AreInserted done es b x
+    all_inserted_ok done no_exprs b x q =
+        subst (λ (z : Parts). AreInserted done no_exprs b z) (ok_is q)
+        (record { more = []; all = sym (append-nil done); places = tt; grows = stays b.types; elaborate = λ types w. of_none })
+    all_inserted_ok done (more_exprs e es) b x q =
+        let u = then_ok (inserted ks e b) (λ (u : Cast). inserted_all ks (done ++ u.part ∷ []) es u.table) x q in
+        let h = inserted_ok e b u.0 u.1 in
+        let rest = all_inserted_ok (done ++ u.0.part ∷ []) es u.0.table x u.2 in
+        record {
+          more = u.0.part ∷ rest.more;
+          all = rest.all ∙ append_assoc done (u.0.part ∷ []) rest.more;
+          places = (h.place, rest.places);
+          grows = grows_on b.types u.0.table.types x.table.types h.grows rest.grows;
+          elaborate = λ types w. of_more (h.elaborates types (within_before ks.dynamic u.0.table.types x.table.types types rest.grows w)) (rest.elaborate types w);
+        }

@@ -1,11 +1,9 @@
--- Lines with casts, as the rules say and as the code gives them.
-use Rattle.std.proofs.Common.{◌≡◌, ℕ, ◌⊎◌, inl, inr, true, List, [], ◌∷◌, ◌++◌, Option, Some, None, Result, Ok, Err, refl, sym, ◌∙◌, ap, subst, append_assoc}
-use Rattle.std.specs.Prelude.{is_some, map}
-use Rattle.std.specs.Option.{option_map}
-use Rattle.std.proofs.lemmas.Bool.{and_parts}
-use Rattle.std.proofs.lemmas.List.{append-nil}
-use Rattle.mono_list.proofs.Cases.{some_is, none_some}
-use Rattle.mono_syntax.specs.declared.cast.NamedType.{NamedType}
+-- The lines that the code gives are what the rules say, and what it refuses is the first fault.
+use Rattle.std.proofs.Common.{◌≡◌, ℕ, true, false, cond, List, [], ◌∷◌, ◌++◌, length, Result, Ok, refl, sym, ◌∙◌, ap, subst, append_assoc}
+use Rattle.std.specs.Prelude.{Option, Some, None, map}
+use Rattle.std.proofs.lemmas.List.{length-append, append-nil}
+use Rattle.mono_list.proofs.Cases.{split}
+use Rattle.mono_syntax.specs.declared.leaf.Kind.TheVariants as kind
 use Rattle.mono_syntax.specs.declared.leaf.Place.{Place}
 use Rattle.mono_syntax.specs.declared.leaf.Site.{Site}
 use Rattle.mono_syntax.specs.declared.leaf.Word.{Word}
@@ -13,209 +11,212 @@ use Rattle.mono_syntax.specs.declared.refusal.Refusal.{Refusal}
 use Rattle.mono_syntax.specs.declared.tree.Item.{Item}
 use Rattle.mono_syntax.specs.declared.tree.Item.TheVariants as item
 use Rattle.mono_syntax.specs.Ann.{Ann}
-use Rattle.mono_syntax.specs.Expr.{Expr, no_exprs, more_exprs}
-use Rattle.mono_syntax.specs.Stmt.{Stmt, assign, print}
+use Rattle.mono_syntax.specs.Expr.{Expr, Exprs}
+use Rattle.mono_syntax.specs.Stmt.{Stmt, assign, print, write}
+use Rattle.mono_syntax.specs.CastExprView.{cast_exprs}
 use Rattle.mono_syntax.specs.CastStmt.{CastStmt}
-use Rattle.mono_syntax.specs.Ty.{Ty}
-use Rattle.mono_tree.specs.Meet.{AreApart}
+use Rattle.mono_syntax.specs.CastStmt as cast_stmt
+use Rattle.mono_syntax.specs.Ty.{Ty, dyn, int, bool, str, nil, fun, obj, Fields}
+use Rattle.mono_tree.specs.Static.{is_static}
 use Rattle.mono_tree.specs.WellTyped.{type_of_name}
-use Rattle.script_casts.specs.declared.base_type.BaseType.{BaseType}
-use Rattle.script_casts.specs.declared.names.Known.{Known}
+use Rattle.script_rules.specs.Definitions.{statements_of}
+use Rattle.typing_rules.specs.Elaborates.{IsSiteFor, Uses, Elaborates, ElaborateAll, ElaboratesLine, assigns, prints, writes_dyn, writes_static, writes_field, ElaboratesBlock, ends, goes_on}
+use Rattle.typing_rules.specs.Members.{Names, field_type}
+use Rattle.script_casts.specs.declared.known.Known.{Known}
+use Rattle.script_casts.specs.declared.sites.Cast.{Cast}
+use Rattle.script_casts.specs.declared.sites.Part.{Part}
+use Rattle.script_casts.specs.declared.sites.Table.{Table}
 use Rattle.script_casts.specs.declared.statements.Body.{Body}
 use Rattle.script_casts.specs.declared.statements.Line.{Line}
-use Rattle.script_casts.specs.BaseTypes.{type_of, base_types}
-use Rattle.script_casts.specs.BlockNames.{statements}
-use Rattle.script_casts.specs.Elaborates.{Uses, ElaboratesLine, assigns, prints, ElaboratesBlock, ends, goes_on}
-use Rattle.script_casts.specs.Inserted.{inserted, used}
-use Rattle.script_casts.specs.KnownNames.{known_type, is_fine, is_fine_statement, all_fine}
-use Rattle.script_casts.specs.Lines.{named, assigned_value, line_of, lines_from}
-use Rattle.script_casts.specs.SourcePlaces.{place_of}
-use Rattle.script_casts.specs.TypingFaults.{LineFault, in_value, at_value, in_print, BlockFault, here, later}
-use Rattle.script_casts.proofs.InsertLaws.{ok_is, err_ok, ok_err, then_ok, first_err, second_err, then_err, known_named, type_of_name-named, refused_at, inserted_ok, used_ok, used_err, inserted_err}
-use Rattle.script_casts.proofs.InsertAgain.{used_again, used_apart, then_is, then_stops, again, fault_again}
+use Rattle.script_casts.specs.Inserted.{and_then, with_plain, with_site, used, inserted, inserted_all}
+use Rattle.script_casts.specs.Lines.{assigned_value, expr_of_part, printed_values, dyn_write, static_write, write_typed, write_member, line_of, with_line, lines_from}
+use Rattle.script_casts.proofs.Classes.{IsKnown}
+use Rattle.script_casts.proofs.InsertLaws.{Within, within_before, IsInserted, inserted_ok, all_inserted_ok}
+use Rattle.script_casts.proofs.PartLaws.{type_of_part}
+use Rattle.script_casts.proofs.SiteLaws.{plain_site, has_site, IsUsed, used_ok}
+use Rattle.script_casts.proofs.Steps.{ok_is, err_ok, then_ok}
+use Rattle.script_casts.proofs.TypeListLaws.{Grows, stays, grows_on}
 
-module _ (ks : List Known) where
-  names : List NamedType
-  names = map named ks
+module _ (names : Names) (ks : Known) (known : IsKnown names ks) where
+  same_name : (x : List ℕ) (t : Ty) → type_of_name ks.values x ≡ Some t → type_of_name names.values x ≡ Some t
+  same_name x t e = ap (λ vs. type_of_name vs x) (sym known.values) ∙ e
 
-  -- ---- what the code gives is what the rules say
+  abbrev Inserted : Expr → Table → Cast → Type 0
+  Inserted e b x = IsInserted names ks known e b x
 
-  abbrev IsLine : Stmt → List Site → Line → Type 0
-  IsLine s ss x = ElaboratesLine base_types (map named ks) ss s x.statement x.sites
+  -- ---- lines
 
-  line_so : (s : Stmt) (ss : List Site) (x y : Line) → ◌≡◌ {A = Result Line Refusal} (Ok x) (Ok y) → IsLine s ss x → IsLine s ss y
-  line_so s ss x y e h = subst (λ (z : Line). IsLine s ss z) (ok_is e) h
+  -- x is the line s with its casts, behind the sites of b
+  pub record IsLine (s : Stmt) (b : Table) (x : Line) : Type 0 where
+    pub grows : Grows b.types x.table.types
+    pub elaborates : (types : List Ty) → Within ks.dynamic x.table.types types → ElaboratesLine types names b.sites s x.statement x.table.sites
 
-  assigned_ok : (w : Word) (ann : Option Ann) (e : Expr) (ss : List Site) (x : Line) (o : Option BaseType) → known_type ks w.text ≡ o
-      → assigned_value o ks w e ss ≡ Ok x → IsLine (assign w ann e) ss x
-  assigned_ok w ann e ss x None k q = absurd (err_ok q)
-  assigned_ok w ann e ss x (Some t) k q =
-      let u = then_ok (inserted ks e ss) _ x q in
-      let v = then_ok (used u.0.part t u.0.sites) _ x u.2 in
-      let h = inserted_ok ks e ss u.0 u.1 in
-      let i = used_ok u.0.part t u.0.sites v.0 v.1 in
-      let uses = subst (λ (p : Place). Uses base_types u.0.sites p (type_of u.0.part.ty) u.0.part.expr (type_of t) v.0.part.expr v.0.sites) h.place i.uses in
-      line_so (assign w ann e) ss _ x v.2 (assigns (known_named ks w.text t k) h.elaborates uses)
+  line_so : (s : Stmt) (b : Table) (x y : Line) → ◌≡◌ {A = Result Line Refusal} (Ok x) (Ok y) → IsLine s b x → IsLine s b y
+  line_so s b x y q h = subst (λ (z : Line). IsLine s b z) (ok_is q) h
 
-  pub line_ok : (s : Stmt) (ss : List Site) (x : Line) → line_of ks s ss ≡ Ok x → IsLine s ss x
-  line_ok (assign w ann e) ss x q = assigned_ok w ann e ss x (known_type ks w.text) refl q
-  line_ok (print p no_exprs) ss x q = absurd (err_ok q)
-  line_ok (print p (more_exprs e no_exprs)) ss x q =
-      let u = then_ok (inserted ks e ss) _ x q in
-      line_so (print p (more_exprs e no_exprs)) ss _ x u.2 (prints (inserted_ok ks e ss u.0 u.1).elaborates)
-  line_ok (print p (more_exprs e (more_exprs f es))) ss x q = absurd (err_ok q)
-  line_ok _ ss x q = absurd (err_ok q)
+  -- ---- assignments and prints
+
+  assigned_ok : (w : Word) (ann : Option Ann) (e : Expr) (b : Table) (x : Line) (o : Option Ty) → type_of_name ks.values w.text ≡ o → assigned_value o ks w e b ≡ Ok x → IsLine (assign w ann e) b x
+  assigned_ok w ann e b x None k q = absurd (err_ok q)
+  assigned_ok w ann e b x (Some t) k q =
+      let u = then_ok (inserted ks e b) _ x q in
+      let v = then_ok (used u.0.part t u.0.table) _ x u.2 in
+      let h = inserted_ok names ks known e b u.0 u.1 in
+      let i = used_ok u.0.part t u.0.table v.0 v.1 in
+      line_so (assign w ann e) b _ x v.2
+      (record {
+        grows = grows_on b.types u.0.table.types v.0.table.types h.grows i.grows;
+        elaborates =
+            λ types n.
+            assigns (same_name w.text t k) (h.elaborates types (within_before ks.dynamic u.0.table.types v.0.table.types types i.grows n))
+            (subst (λ (p : Place). Uses types u.0.table.sites p u.0.part.ty u.0.part.expr t v.0.part.expr v.0.table.sites) h.place (i.uses types n.keeps));
+      })
+
+  printed_ok : (p : Place) (es : Exprs) (b : Table) (x : Line) → printed_values ks es b ≡ Ok x → IsLine (print p es) b x
+  printed_ok p es b x q =
+      let u = then_ok (inserted_all ks [] es b) _ x q in
+      let h = all_inserted_ok names ks known [] es b u.0 u.1 in
+      line_so (print p es) b _ x u.2
+      (record {
+        grows = h.grows;
+        elaborates =
+            λ types n.
+            prints (subst (λ (z : List Part). ElaborateAll types names b.sites es (map type_of_part z) (cast_exprs (map expr_of_part z)) u.0.table.sites) (sym h.all) (h.elaborate types n));
+      })
+
+  -- ---- writes
+
+  dyn_write_ok : (o : Expr) (w : Word) (e : Expr) (b : Table) (u v : Cast) → Inserted o b u → Inserted e u.table v → u.part.ty ≡ dyn
+      → IsLine (write o w e) b (dyn_write ks.dynamic u.part.expr w v.part v.table)
+  dyn_write_ok o w e b u v h k i =
+      let member = with_plain ks.dynamic v.table w.place kind.Member in
+      let last = with_site member v.part.place kind.Write v.part.ty dyn in
+      let site = has_site member v.part.place kind.Write v.part.ty dyn in
+      let before : Grows v.table.types last.types = site.grows in
+      record {
+        grows = grows_on b.types u.table.types last.types h.grows (grows_on u.table.types v.table.types last.types k.grows before);
+        elaborates =
+            λ types n.
+            let inner = within_before ks.dynamic v.table.types last.types types before n in
+            let object = subst (λ (t : Ty). Elaborates types names b.sites o t u.part.expr u.table.sites) i (h.elaborates types (within_before ks.dynamic u.table.types v.table.types types k.grows inner)) in
+            let written = subst (λ (p : Place). IsSiteFor types p kind.Write v.part.ty dyn site.site) k.place (site.stands types n.keeps) in
+            subst (λ (ss : List Site). ElaboratesLine types names b.sites (write o w e) (cast_stmt.write (Some (length v.table.sites)) (Some (length member.sites)) dyn u.part.expr w.text v.part.expr) ss) (sym site.sites)
+            (rw (length-append, append_assoc) (writes_dyn object (k.elaborates types inner) (plain_site types w.place kind.Member ks.dynamic n.dynamic) written));
+      }
+
+  -- a write where nothing is left to test
+  fixed_write_ok : (o : Expr) (w : Word) (e : Expr) (b : Table) (u v x : Cast) (fs : Fields) (t : Ty) → Inserted o b u → Inserted e u.table v → u.part.ty ≡ obj fs → field_type fs w.text ≡ Some t
+      → IsUsed v.part t v.table x → is_static t ≡ true → IsLine (write o w e) b (record { statement = cast_stmt.write None None t u.part.expr w.text x.part.expr; table = x.table })
+  fixed_write_ok o w e b u v x fs t h k i f j y =
+      record {
+        grows = grows_on b.types u.table.types x.table.types h.grows (grows_on u.table.types v.table.types x.table.types k.grows j.grows);
+        elaborates =
+            λ types n.
+            let inner = within_before ks.dynamic v.table.types x.table.types types j.grows n in
+            let object = subst (λ (t : Ty). Elaborates types names b.sites o t u.part.expr u.table.sites) i (h.elaborates types (within_before ks.dynamic u.table.types v.table.types types k.grows inner)) in
+            writes_static object (k.elaborates types inner) f y
+            (subst (λ (p : Place). Uses types v.table.sites p v.part.ty v.part.expr t x.part.expr x.table.sites) k.place (j.uses types n.keeps));
+      }
+
+  -- a write where the field may have become more precise
+  open_write_ok : (o : Expr) (w : Word) (e : Expr) (b : Table) (u v x : Cast) (fs : Fields) (t : Ty) → Inserted o b u → Inserted e u.table v → u.part.ty ≡ obj fs → field_type fs w.text ≡ Some t
+      → IsUsed v.part t v.table x → is_static t ≡ false
+      → IsLine (write o w e) b (record { statement = cast_stmt.write None (Some (length x.table.sites)) t u.part.expr w.text x.part.expr; table = with_site x.table v.part.place kind.Write v.part.ty t })
+  open_write_ok o w e b u v x fs t h k i f j y =
+      let last = with_site x.table v.part.place kind.Write v.part.ty t in
+      let site = has_site x.table v.part.place kind.Write v.part.ty t in
+      let after : Grows v.table.types last.types = grows_on v.table.types x.table.types last.types j.grows site.grows in
+      record {
+        grows = grows_on b.types u.table.types last.types h.grows (grows_on u.table.types v.table.types last.types k.grows after);
+        elaborates =
+            λ types n.
+            let inner = within_before ks.dynamic v.table.types last.types types after n in
+            let object = subst (λ (t : Ty). Elaborates types names b.sites o t u.part.expr u.table.sites) i (h.elaborates types (within_before ks.dynamic u.table.types v.table.types types k.grows inner)) in
+            let uses = j.uses types (within_before ks.dynamic x.table.types last.types types site.grows n).keeps in
+            let written = subst (λ (p : Place). IsSiteFor types p kind.Write v.part.ty t site.site) k.place (site.stands types n.keeps) in
+            subst (λ (ss : List Site). ElaboratesLine types names b.sites (write o w e) (cast_stmt.write None (Some (length x.table.sites)) t u.part.expr w.text x.part.expr) ss) (sym site.sites)
+            (writes_field object (k.elaborates types inner) f y
+            (subst (λ (p : Place). Uses types v.table.sites p v.part.ty v.part.expr t x.part.expr x.table.sites) k.place uses)
+            written);
+      }
+
+  static_write_ok : (o : Expr) (w : Word) (e : Expr) (b : Table) (u v x : Cast) (fs : Fields) (t : Ty) → Inserted o b u → Inserted e u.table v → u.part.ty ≡ obj fs → field_type fs w.text ≡ Some t
+      → IsUsed v.part t v.table x → IsLine (write o w e) b (static_write t u.part.expr w x.part.expr v.part x.table)
+  static_write_ok o w e b u v x fs t h k i f j =
+      split (is_static t) (λ z. IsLine (write o w e) b (cond z (record { statement = cast_stmt.write None None t u.part.expr w.text x.part.expr; table = x.table })
+      (record { statement = cast_stmt.write None (Some (length x.table.sites)) t u.part.expr w.text x.part.expr; table = with_site x.table v.part.place kind.Write v.part.ty t })))
+      (λ y. fixed_write_ok o w e b u v x fs t h k i f j y)
+      (λ n. open_write_ok o w e b u v x fs t h k i f j n)
+
+  typed_write_ok : (o : Expr) (w : Word) (e : Expr) (b : Table) (u v : Cast) (x : Line) (fs : Fields) (p : Option Ty) → Inserted o b u → Inserted e u.table v → u.part.ty ≡ obj fs → field_type fs w.text ≡ p
+      → write_typed p u.part.expr w v.part v.table ≡ Ok x → IsLine (write o w e) b x
+  typed_write_ok o w e b u v x fs None h k i f q = absurd (err_ok q)
+  typed_write_ok o w e b u v x fs (Some t) h k i f q =
+      let y = then_ok (used v.part t v.table) _ x q in
+      line_so (write o w e) b _ x y.2 (static_write_ok o w e b u v y.0 fs t h k i f (used_ok v.part t v.table y.0 y.1))
+
+  member_write_ok : (o : Expr) (w : Word) (e : Expr) (b : Table) (u v : Cast) (x : Line) (s : Ty) → Inserted o b u → Inserted e u.table v → u.part.ty ≡ s
+      → write_member ks.dynamic s u.part.expr w v.part v.table ≡ Ok x → IsLine (write o w e) b x
+  member_write_ok o w e b u v x dyn h k i q = line_so (write o w e) b _ x q (dyn_write_ok o w e b u v h k i)
+  member_write_ok o w e b u v x (obj fs) h k i q = typed_write_ok o w e b u v x fs (field_type fs w.text) h k i refl q
+  member_write_ok o w e b u v x int h k i q = absurd (err_ok q)
+  member_write_ok o w e b u v x bool h k i q = absurd (err_ok q)
+  member_write_ok o w e b u v x str h k i q = absurd (err_ok q)
+  member_write_ok o w e b u v x nil h k i q = absurd (err_ok q)
+  member_write_ok o w e b u v x (fun ps r) h k i q = absurd (err_ok q)
+
+  pub line_ok : (s : Stmt) (b : Table) (x : Line) → line_of ks s b ≡ Ok x → IsLine s b x
+  line_ok (assign w ann e) b x q = assigned_ok w ann e b x (type_of_name ks.values w.text) refl q
+  line_ok (print p es) b x q = printed_ok p es b x q
+  line_ok (write o w e) b x q =
+      let u = then_ok (inserted ks o b) (λ (u : Cast). and_then (inserted ks e u.table) (λ v. write_member ks.dynamic u.part.ty u.part.expr w v.part v.table)) x q in
+      let v = then_ok (inserted ks e u.0.table) (λ (v : Cast). write_member ks.dynamic u.0.part.ty u.0.part.expr w v.part v.table) x u.2 in
+      member_write_ok o w e b u.0 v.0 x u.0.part.ty (inserted_ok names ks known o b u.0 u.1) (inserted_ok names ks known e u.0.table v.0 v.1) refl v.2
+  line_ok _ b x q = absurd (err_ok q)
+
+  -- ---- the block
 
   -- the block with casts, behind lines that are done
-  pub record IsBody (done : List CastStmt) (ss : List Site) (is : List Item) (b : Body) : Type 0 where
+  pub record IsBody (done : Body) (is : List Item) (x : Body) : Type 0 where
     pub lines : List CastStmt
-    pub all : b.lines ≡ done ++ lines
-    pub elaborates : ElaboratesBlock base_types (map named ks) ss (statements is) lines b.sites
+    pub all : x.lines ≡ done.lines ++ lines
+    pub grows : Grows done.table.types x.table.types
+    pub elaborates : (types : List Ty) → Within ks.dynamic x.table.types types → ElaboratesBlock types names done.table.sites (statements_of is) lines x.table.sites
 
-  pub lines_ok : (done : List CastStmt) (ss : List Site) (is : List Item) (b : Body) → lines_from ks done ss is ≡ Ok b → IsBody done ss is b
-  lines_ok done ss [] b q = subst (λ (z : Body). IsBody done ss [] z) (ok_is q) (record { lines = []; all = sym (append-nil done); elaborates = ends })
-  lines_ok done ss (item.Stmt s ∷ is) b q =
-      let u = then_ok (line_of ks s ss) _ b q in
-      let h = lines_ok (done ++ u.0.statement ∷ []) u.0.sites is b u.2 in
-      record { lines = u.0.statement ∷ h.lines; all = h.all ∙ append_assoc done (u.0.statement ∷ []) h.lines; elaborates = goes_on (line_ok s ss u.0 u.1) h.elaborates }
-  lines_ok done ss (_ ∷ is) b q = absurd (err_ok q)
+  -- one more line
+  pub record IsNext (s : Stmt) (done more : Body) : Type 0 where
+    pub line : Line
+    pub is : line_of ks s done.table ≡ Ok line
+    pub next : record { lines = done.lines ++ line.statement ∷ []; table = line.table } ≡ more
 
-  -- ---- what the code refuses is the first fault
+  pub next_ok : (s : Stmt) (done more : Body) → with_line ks done s ≡ Ok more → IsNext s done more
+  next_ok s done more q = let u = then_ok (line_of ks s done.table) _ more q in record { line = u.0; is = u.1; next = ok_is u.2 }
 
-  -- the name that a statement assigns is known
-  abbrev pub TargetKnown : Stmt → Type 0
-  TargetKnown (assign w ann e) = is_some (known_type ks w.text) ≡ true
-  TargetKnown _ = Unit {0}
+  line_and : (s : Stmt) (done more x : Body) (is : List Item) → IsNext s done more → IsBody more is x → IsBody done (item.Stmt s ∷ is) x
+  line_and s done more x is n h =
+      let i = line_ok s done.table n.line n.is in
+      let rest = subst (λ (z : Body). IsBody z is x) (sym n.next) h in
+      record {
+        lines = n.line.statement ∷ rest.lines;
+        all = rest.all ∙ append_assoc done.lines (n.line.statement ∷ []) rest.lines;
+        grows = grows_on done.table.types n.line.table.types x.table.types i.grows rest.grows;
+        elaborates = λ types w. goes_on (i.elaborates types (within_before ks.dynamic n.line.table.types x.table.types types rest.grows w)) (rest.elaborates types w);
+      }
 
-  abbrev pub TargetsKnown : List Stmt → Type 0
-  TargetsKnown [] = Unit {0}
-  TargetsKnown (s ∷ ss) = TargetKnown s × TargetsKnown ss
+  other_and : (done x : Body) (is : List Item) (i : Item) → statements_of (i ∷ is) ≡ statements_of is → IsBody done is x → IsBody done (i ∷ is) x
+  other_and done x is i e h =
+      record {
+        lines = h.lines;
+        all = h.all;
+        grows = h.grows;
+        elaborates = λ types w. subst (λ (z : List Stmt). ElaboratesBlock types names done.table.sites z h.lines x.table.sites) (sym e) (h.elaborates types w);
+      }
 
-  abbrev pub LineRefused : Stmt → Refusal → Type 0
-  LineRefused s r = (q : Place) × (r ≡ refused_at q) × LineFault base_types (map named ks) s q
-
-  assigned_err : (w : Word) (ann : Option Ann) (e : Expr) (ss : List Site) (r : Refusal) (o : Option BaseType) → is_some o ≡ true → is_fine ks e ≡ true → known_type ks w.text ≡ o
-      → assigned_value o ks w e ss ≡ Err r → LineRefused (assign w ann e) r
-  assigned_err w ann e ss r None i f k q = absurd cc
-  assigned_err w ann e ss r (Some t) i f k q =
-      elim (then_err (inserted ks e ss) _ r q) [
-        | first_err g ↦ (let h = inserted_err ks e ss r f g in (h.0, h.1, in_value h.2))
-        | second_err u g j ↦ elim (then_err (used u.part t u.sites) _ r j) [
-          | first_err l ↦ (
-              let h = inserted_ok ks e ss u g in
-              let a = used_err u.part t u.sites r l in
-              (place_of e, a.0 ∙ ap refused_at h.place, at_value (known_named ks w.text t k) h.elaborates a.1)
-              )
-          | second_err v l m ↦ absurd (ok_err m)
-        ]
-      ]
-
-  line_err : (s : Stmt) (ss : List Site) (r : Refusal) → TargetKnown s → is_fine_statement ks s ≡ true → line_of ks s ss ≡ Err r → LineRefused s r
-  line_err (assign w ann e) ss r i f q = assigned_err w ann e ss r (known_type ks w.text) i f refl q
-  line_err (print p no_exprs) ss r i f q = absurd cc
-  line_err (print p (more_exprs e no_exprs)) ss r i f q =
-      elim (then_err (inserted ks e ss) _ r q) [
-        | first_err g ↦ (let h = inserted_err ks e ss r f g in (h.0, h.1, in_print h.2))
-        | second_err u g j ↦ absurd (ok_err j)
-      ]
-  line_err (print p (more_exprs e (more_exprs g es))) ss r i f q = absurd cc
-  line_err _ ss r i f q = absurd cc
-
-  abbrev pub BlockRefused : List Stmt → Refusal → Type 0
-  BlockRefused ss r = (q : Place) × (r ≡ refused_at q) × BlockFault base_types (map named ks) ss q
-
-  pub lines_err : (done : List CastStmt) (ss : List Site) (is : List Item) (r : Refusal) → TargetsKnown (statements is) → all_fine ks is ≡ true → lines_from ks done ss is ≡ Err r
-      → BlockRefused (statements is) r
-  lines_err done ss [] r i f q = absurd (ok_err q)
-  lines_err done ss (item.Stmt s ∷ is) r i f q =
-      let fs = and_parts (is_fine_statement ks s) (all_fine ks is) f in
-      elim (then_err (line_of ks s ss) _ r q) [
-        | first_err g ↦ (let h = line_err s ss r i.0 fs.0 g in (h.0, h.1, here h.2))
-        | second_err u g j ↦ (let h = lines_err (done ++ u.statement ∷ []) u.sites is r i.1 fs.1 j in (h.0, h.1, later (line_ok s ss u g) h.2))
-      ]
-  lines_err done ss (_ ∷ is) r i f q = absurd cc
-
-  -- ---- what the rules say is what the code gives
-
-  module _ (types : List Ty) where
-    -- the type of a known name
-    name_known : (x : List ℕ) (t : Ty) → type_of_name (map named ks) x ≡ Some t → (b : BaseType) × (known_type ks x ≡ Some b) × (type_of b ≡ t)
-    name_known x t e = go (known_type ks x) refl (sym (type_of_name-named ks x) ∙ e)
-      where
-        go : (o : Option BaseType) → known_type ks x ≡ o → option_map type_of o ≡ Some t → (b : BaseType) × (known_type ks x ≡ Some b) × (type_of b ≡ t)
-        go None k h = none_some ((b : BaseType) × (known_type ks x ≡ Some b) × (type_of b ≡ t)) h
-        go (Some b) k h = (b, k, some_is h)
-
-    at_known : (w : Word) (e : Expr) (b : BaseType) (xs : List Site) (r : Result Line Refusal) → known_type ks w.text ≡ Some b → assigned_value (Some b) ks w e xs ≡ r
-        → assigned_value (known_type ks w.text) ks w e xs ≡ r
-    at_known w e b xs r k h = ap (λ (o : Option BaseType). assigned_value o ks w e xs) k ∙ h
-
-    pub line_again : (ss us : List Site) (s : Stmt) (c : CastStmt) → ElaboratesLine types (map named ks) ss s c us → (xs : List Site) → (x : Line) × (line_of ks s xs ≡ Ok x)
-    line_again ss us s c (assigns {w = w} {ann = ann} {e = e} {s = u} {t = t} n f g) xs =
-        let k = name_known w.text t n in
-        let h = again ks types _ _ e u _ f xs in
-        let v = used_again h.cast.part k.0 h.cast.sites types _ _ _ u t _ _ h.type k.2 g in
-        (_, at_known w e k.0 xs _ k.1 (then_is (inserted ks e xs) _ h.cast _ h.is (then_is (used h.cast.part k.0 h.cast.sites) _ v.0 _ v.1 refl)))
-    line_again ss us s c (prints {e = e} {s = u} f) xs =
-        let h = again ks types _ _ e u _ f xs in
-        (_, then_is (inserted ks e xs) _ h.cast _ h.is refl)
-
-    line_fault_again : (s : Stmt) (q : Place) → LineFault types (map named ks) s q → is_fine_statement ks s ≡ true → TargetKnown s → (xs : List Site) → line_of ks s xs ≡ Err (refused_at q)
-    line_fault_again s q (in_value {w = w} {e = e} f) i j xs = go (known_type ks w.text) refl j
-      where
-        go : (o : Option BaseType) → known_type ks w.text ≡ o → is_some o ≡ true → assigned_value (known_type ks w.text) ks w e xs ≡ Err (refused_at q)
-        go None k h = absurd cc
-        go (Some b) k h = at_known w e b xs _ k (then_stops (inserted ks e xs) _ (refused_at q) (fault_again ks types e q f xs))
-    line_fault_again s q (at_value {w = w} {e = e} {s = u} {t = t} n f a) i j xs =
-        let k = name_known w.text t n in
-        let h = again ks types _ _ e u _ f xs in
-        let apart : AreApart (type_of h.cast.part.ty) (type_of k.0) = subst (λ (z : Ty). AreApart z (type_of k.0)) (sym h.type) (subst (λ (z : Ty). AreApart u z) (sym k.2) a) in
-        let refused = subst (λ (z : Place). used h.cast.part k.0 h.cast.sites ≡ Err (refused_at z)) (inserted_ok ks e xs h.cast h.is).place (used_apart h.cast.part k.0 h.cast.sites apart) in
-        at_known w e k.0 xs _ k.1 (then_is (inserted ks e xs) _ h.cast _ h.is (then_stops (used h.cast.part k.0 h.cast.sites) _ (refused_at (place_of e)) refused))
-    line_fault_again s q (in_print {e = e} f) i j xs = then_stops (inserted ks e xs) _ (refused_at q) (fault_again ks types e q f xs)
-
-    -- the first line and the rest
-    abbrev HeadAndRest : List Stmt → Type 0
-    HeadAndRest [] = Unit {0}
-    HeadAndRest (s ∷ ss) =
-        (as_ : List Site) × (bs : List Site) × (cs : List Site) × (c : CastStmt) × (ds : List CastStmt)
-        × ElaboratesLine types (map named ks) as_ s c bs × ElaboratesBlock types (map named ks) bs ss ds cs
-
-    head_and_rest : (ss us : List Site) (stmts : List Stmt) (cs : List CastStmt) → ElaboratesBlock types (map named ks) ss stmts cs us → HeadAndRest stmts
-    head_and_rest ss us stmts cs ends = tt
-    head_and_rest ss us stmts cs (goes_on f g) = (_, _, _, _, _, f, g)
-
-    pub lines_again : (ss us : List Site) (is : List Item) (cs : List CastStmt) → all_fine ks is ≡ true → ElaboratesBlock types (map named ks) ss (statements is) cs us
-        → (done : List CastStmt) (xs : List Site) → (b : Body) × (lines_from ks done xs is ≡ Ok b)
-    lines_again ss us [] cs f h done xs = (_, refl)
-    lines_again ss us (item.Stmt s ∷ is) cs f h done xs =
-        let fs = and_parts (is_fine_statement ks s) (all_fine ks is) f in
-        let (as_, bs, ws, c, ds, line, rest) = head_and_rest ss us (s ∷ statements is) cs h in
-        let x = line_again as_ bs s c line xs in
-        let b = lines_again bs ws is ds fs.1 rest (done ++ x.0.statement ∷ []) x.0.sites in
-        (b.0, then_is (line_of ks s xs) _ x.0 _ x.1 b.1)
-    lines_again ss us (_ ∷ is) cs f h done xs = absurd cc
-
-    abbrev HereOrLater : List Stmt → Place → Type 0
-    HereOrLater [] q = ⊥
-    HereOrLater (s ∷ ss) q =
-        LineFault types (map named ks) s q
-        ⊎ ((as_ : List Site) × (bs : List Site) × (c : CastStmt) × ElaboratesLine types (map named ks) as_ s c bs × BlockFault types (map named ks) ss q)
-
-    here_or_later : (stmts : List Stmt) (q : Place) → BlockFault types (map named ks) stmts q → HereOrLater stmts q
-    here_or_later stmts q (here f) = inl f
-    here_or_later stmts q (later f g) = inr (_, _, _, f, g)
-
-    pub lines_fault_again : (is : List Item) (q : Place) → TargetsKnown (statements is) → all_fine ks is ≡ true → BlockFault types (map named ks) (statements is) q
-        → (done : List CastStmt) (xs : List Site) → lines_from ks done xs is ≡ Err (refused_at q)
-    lines_fault_again [] q i f h done xs = absurd (here_or_later [] q h)
-    lines_fault_again (item.Stmt s ∷ is) q i f h done xs =
-        let fs = and_parts (is_fine_statement ks s) (all_fine ks is) f in
-        elim (here_or_later (s ∷ statements is) q h) [
-          | inl g ↦ then_stops (line_of ks s xs) _ (refused_at q) (line_fault_again s q g fs.0 i.0 xs)
-          | inr t ↦ (
-              let x = line_again t.0 t.1 s t.2 t.3 xs in
-              then_is (line_of ks s xs) _ x.0 _ x.1 (lines_fault_again is q i.1 fs.1 t.4 (done ++ x.0.statement ∷ []) x.0.sites)
-              )
-        ]
-    lines_fault_again (_ ∷ is) q i f h done xs = absurd cc
+  pub lines_ok : (done : Body) (is : List Item) (x : Body) → lines_from ks done is ≡ Ok x → IsBody done is x
+  lines_ok done [] x q =
+      subst (λ (z : Body). IsBody done [] z) (ok_is q) (record { lines = []; all = sym (append-nil done.lines); grows = stays done.table.types; elaborates = λ types w. ends })
+  lines_ok done (item.Stmt s ∷ is) x q =
+      let u = then_ok (with_line ks done s) (λ (more : Body). lines_from ks more is) x q in
+      line_and s done u.0 x is (next_ok s done u.0 u.1) (lines_ok u.0 is x u.2)
+  lines_ok done (item.Class d ∷ is) x q = other_and done x is (item.Class d) refl (lines_ok done is x q)
+  lines_ok done (item.Def d ∷ is) x q = other_and done x is (item.Def d) refl (lines_ok done is x q)

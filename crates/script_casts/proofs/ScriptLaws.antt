@@ -1,309 +1,190 @@
--- What the code makes of a script is what the rules say, and it refuses exactly what they refuse.
-use Rattle.std.proofs.Common.{◌≡◌, ℕ, zero, suc, ◌<◌, ◌⊎◌, inl, inr, Bool, true, false, cond, List, [], ◌∷◌, length, Option, Some, None, Result, Ok, Err, refl, sym, ◌∙◌, ap, subst, arith}
-use Rattle.std.specs.Prelude.{Contains, map, IfOk, IfErr, IsOkUnless}
-use Rattle.std.proofs.lemmas.Bool.{and_parts, or_left, or_right}
-use Rattle.std.proofs.lemmas.List.{length-map}
+-- The script that the code gives is the script with its casts, and what it refuses is refused so.
+use Rattle.std.proofs.Common.{◌≡◌, Bool, true, false, cond, inl, inr, List, [], ◌∷◌, Result, Ok, Err, refl, sym, ◌∙◌, ap, subst}
+use Rattle.std.specs.Prelude.{Some, IfOk, IfErr, IsOkUnless, map, slice_get}
 use Rattle.mono_syntax.specs.declared.cast.CastScript.{CastScript}
 use Rattle.mono_syntax.specs.declared.cast.NamedType.{NamedType}
-use Rattle.mono_syntax.specs.declared.leaf.Place.{Place}
+use Rattle.mono_syntax.specs.declared.leaf.TyAt.{TyAt}
 use Rattle.mono_syntax.specs.declared.refusal.LoadFault.{LoadFault}
 use Rattle.mono_syntax.specs.declared.refusal.LoadFault.TheVariants.{Refused, Memory}
-use Rattle.mono_syntax.specs.declared.refusal.Reason.{Reason}
 use Rattle.mono_syntax.specs.declared.refusal.Refusal.{Refusal}
-use Rattle.mono_syntax.specs.declared.tree.Item.{Item}
-use Rattle.mono_syntax.specs.declared.tree.Item.TheVariants as item
-use Rattle.mono_syntax.specs.declared.tree.Script.{Script}
-use Rattle.mono_syntax.specs.Ann as form
-use Rattle.mono_syntax.specs.Expr.{no_exprs, more_exprs}
-use Rattle.mono_syntax.specs.Stmt.{Stmt, assign}
-use Rattle.mono_syntax.specs.Ty.{Ty, dyn, int, bool, str, nil}
+use Rattle.mono_syntax.specs.declared.script.Scoped.{Scoped}
+use Rattle.mono_syntax.specs.declared.tree.ClassDef.{ClassDef}
+use Rattle.mono_syntax.specs.CastStmt.{CastStmt}
+use Rattle.mono_syntax.specs.Ty.{Ty, dyn}
 use Rattle.mono_tree.specs.WellTyped.{IsWellTypedProgram}
-use Rattle.mono_tree.proofs.MeetMade as texts
-use Rattle.script_casts.specs.declared.base_type.BaseType.{BaseType}
-use Rattle.script_casts.specs.declared.names.Known.{Known}
+use Rattle.script_rules.specs.BlockNames.{Target, firsts, all_targets}
+use Rattle.script_rules.specs.Scoping.{IsScope, class_list, main_block}
+use Rattle.typing_rules.specs.BuiltForms.{AreBuilt, not_built}
+use Rattle.typing_rules.specs.Elaborates.{ElaboratesBlock}
+use Rattle.typing_rules.specs.HasCasts.{AreClasses, AreNames, IsMainNames, HasCasts, IsRefusal, unbuilt, mistyped, IsFault, HaveClassTypes}
+use Rattle.typing_rules.specs.Members.{Names}
+use Rattle.typing_rules.specs.TypingFaults.{BlockFault}
+use Rattle.typing_rules.proofs.TypedLaws.{well_typed}
+use Rattle.script_casts.specs.declared.known.Known.{Known}
 use Rattle.script_casts.specs.declared.statements.Body.{Body}
-use Rattle.script_casts.specs.BaseTypes.{base_types, written_type}
-use Rattle.script_casts.specs.BlockNames.{targets, assigned_names, firsts, name_of, block_names, statements}
-use Rattle.script_casts.specs.BuiltForms.{IsBuiltAnn, IsBuiltLine, AreBuilt, not_built}
-use Rattle.script_casts.specs.Elaborates.{ElaboratesBlock}
-use Rattle.script_casts.specs.HasCasts.{main_block, AreDistinct, HavePlaces, IsFine, HasCasts, IsRefusal, unbuilt, misnamed, mistyped, IsFault, Refuses}
-use Rattle.script_casts.specs.Inserted.{and_then, Gives}
-use Rattle.script_casts.specs.KnownNames.{is_fine_statement, all_fine, gathered}
-use Rattle.script_casts.specs.Lines.{named, typed, finished, lines_from, made_with, made_from, made}
-use Rattle.script_casts.specs.ScopeFaults.{block_reads, ScopeFault, unknown, twice, crowded}
-use Rattle.script_casts.specs.TypingFaults.{BlockFault}
-use Rattle.script_casts.proofs.BaseLaws.{type_position}
-use Rattle.script_casts.proofs.FineLaws.{Unknown, fine_expr, fine_reads, bad_reads}
-use Rattle.script_casts.proofs.InsertLaws.{ok_is, err_is, then_ok, first_err, second_err, then_err, ok_err, refused_at}
-use Rattle.script_casts.proofs.InsertAgain.{then_is, then_stops}
-use Rattle.script_casts.proofs.LineLaws.{TargetsKnown, IsBody, lines_ok, lines_err, lines_again, lines_fault_again}
-use Rattle.script_casts.proofs.NameLaws.{among, among_Contains, Contains_among, run_has, run_length, run_block_names, newer, newer_none, stops_fault, run_not_twice, get_below, below_get}
-use Rattle.script_casts.proofs.NameRuns.{has, Step, known, new, printed, Run, over, step, Stops, run_of, stops_of}
-use Rattle.script_casts.proofs.TypedLaws.{well_typed}
+use Rattle.script_casts.specs.declared.types.Placed.{Placed}
+use Rattle.script_casts.specs.Fine.{all_fine}
+use Rattle.script_casts.specs.Inserted.{and_then}
+use Rattle.script_casts.specs.Lines.{class_of, lines_from, finished, start, made_from, made}
+use Rattle.script_casts.specs.Refusals.{Gives, Refuses}
+use Rattle.script_casts.specs.TypeList.{with_type}
+use Rattle.script_casts.proofs.FineLaws.{fine_items, items_fine}
+use Rattle.script_casts.proofs.InsertLaws.{Within}
+use Rattle.script_casts.proofs.KnownLaws.{IsFound, known_found, cast_classes}
+use Rattle.script_casts.proofs.LineAgain.{lines_again, lines_fault_again}
+use Rattle.script_casts.proofs.LineFaults.{lines_err}
+use Rattle.script_casts.proofs.LineLaws.{IsBody, lines_ok}
+use Rattle.script_casts.proofs.Steps.{ok_is, ok_err, err_is, then_ok, first_err, second_err, then_err, then_is, then_stops}
+use Rattle.script_casts.proofs.TypeListLaws.{IsPlaced, is_placed}
+use Rattle.script_casts.proofs.WriteLaws.{writes_any_once}
 
--- ---- forms
+-- ---- the names of a script are the only ones
 
-written_built : (ann : Option form.Ann) (t : BaseType) → written_type ann ≡ Some t → IsBuiltAnn ann
-written_built None t e = tt
-written_built (Some (form.ann p form.dyn)) t e = tt
-written_built (Some (form.ann p form.int)) t e = tt
-written_built (Some (form.ann p form.bool)) t e = tt
-written_built (Some (form.ann p form.str)) t e = tt
-written_built (Some (form.ann p form.nil)) t e = tt
-written_built (Some (form.ann p _)) t e = absurd cc
+same_values : (cs : List ClassDef) (ts : List Target) (ns ms : List NamedType) → AreNames cs ts ns → AreNames cs ts ms → ns ≡ ms
+same_values cs [] [] [] h k = refl
+same_values cs (t ∷ ts) (n ∷ ns) (m ∷ ms) h k =
+    let name = h.0 ∙ sym k.0 in
+    let type = writes_any_once cs t.ann n.ty m.ty h.1 k.1 in
+    let rest = same_values cs ts ns ms h.2 k.2 in
+    λ i. record { name = name i; ty = type i } ∷ rest i
+same_values cs [] (n ∷ ns) ms h k = absurd h
+same_values cs [] [] (m ∷ ms) h k = absurd k
+same_values cs (t ∷ ts) [] ms h k = absurd h
+same_values cs (t ∷ ts) (n ∷ ns) [] h k = absurd k
 
-line_built : (ns ks ls : List Known) (s : Stmt) → is_fine_statement ns s ≡ true → Step ks s ls → IsBuiltLine s
-line_built ns ks ls s f (known {e = e} h) = (tt, (fine_expr ns e f).0)
-line_built ns ks ls s f (new {ann = ann} {e = e} {t = t} h k l) = (written_built ann t k, (fine_expr ns e f).0)
-line_built ns ks ls s f (printed {es = no_exprs}) = absurd cc
-line_built ns ks ls s f (printed {es = more_exprs e no_exprs}) = (fine_expr ns e f).0
-line_built ns ks ls s f (printed {es = more_exprs e (more_exprs g es)}) = absurd cc
+same_names : (d : Scoped) (n m : Names) → IsMainNames d n → IsMainNames d m → n ≡ m
+same_names d n m h k =
+    let classes = h.classes ∙ sym k.classes in
+    let values = same_values (class_list d.script) (firsts (all_targets [] (main_block d.script))) n.values m.values h.values k.values in
+    λ i. record { classes = classes i; values = values i }
 
--- the first statement of a run, and the rest
-abbrev RunParts : List Known → List Stmt → List Known → Type 0
-RunParts ks [] ms = Unit {0}
-RunParts ks (s ∷ ss) ms = (ls : List Known) × Step ks s ls × Run ls ss ms
+module _ (d : Scoped) (scope : IsScope d.script d) where
+  -- the list of types with `Dyn`
+  abbrev begun : Placed
+  begun = with_type d.types dyn
 
-run_parts : (ks ms : List Known) (ss : List Stmt) → Run ks ss ms → RunParts ks ss ms
-run_parts ks ms ss over = tt
-run_parts ks ms ss (step {ls = ls} f r) = (ls, f, r)
+  placed : IsPlaced d.types dyn (with_type d.types dyn)
+  placed = is_placed d.types dyn
 
-all_built : (ns ks ms : List Known) (is : List Item) → all_fine ns is ≡ true → Run ks (statements is) ms → AreBuilt is
-all_built ns ks ms [] f r = tt
-all_built ns ks ms (item.Stmt s ∷ is) f r =
-    let fs = and_parts (is_fine_statement ns s) (all_fine ns is) f in
-    let p = run_parts ks ms (s ∷ statements is) r in
-    (line_built ns ks p.0 s fs.0 p.1, all_built ns p.0 ms is fs.1 p.2)
-all_built ns ks ms (_ ∷ is) f r = absurd cc
+  found : IsFound d (with_type d.types dyn).at
+  found = known_found d (with_type d.types dyn).at scope
 
--- ---- faults of names
+  -- `Dyn` stands where the code knows it
+  dyn_there : (f : IsFound d (with_type d.types dyn).at) → slice_get (with_type d.types dyn).types f.known.dynamic.0 ≡ Some dyn
+  dyn_there f = ap (λ (a : TyAt). slice_get (with_type d.types dyn).types a.0) f.dynamic ∙ placed.at
 
-no_fault : (ks : List Known) (is : List Item) (q : Place) (r : Reason) → all_fine ks is ≡ true → Run [] (statements is) ks → ScopeFault (statements is) q r → ⊥
-no_fault ks is q r f run (unknown w c n) = n (among_Contains (assigned_names (statements is)) w.text (sym (run_has [] ks (statements is) w.text run) ∙ fine_reads ks is f w c))
-no_fault ks is q r f run (twice before rest w a e i c) =
-    run_not_twice before rest w a e [] ks (subst (λ (ss : List Stmt). Run [] ss ks) i run) (Contains_among (assigned_names before) w.text c)
-no_fault ks is q r f run (crowded t g) =
-    let l = below_get (firsts (targets (statements is))) 4096 t g in
-    let m = run_length [] ks (statements is) run (omega arith) in
-    let e : length ks ≡ length (firsts (targets (statements is))) =
-    sym (length-map ks named) ∙ ap length (run_block_names ks (statements is) run) ∙ length-map (firsts (targets (statements is))) name_of in
-    omega arith
+  abbrev with_body : Known → Result CastScript Refusal
+  with_body ks = and_then (lines_from ks (start (with_type d.types dyn).types) d.script.items) (λ b. Ok (finished d ks b))
 
-fine_script : (s : Script) (ks : List Known) → all_fine ks s.items ≡ true → Run [] (main_block s) ks → IsFine s
-fine_script s ks f run = record { built = all_built ks [] ks s.items f run; named = λ q r. no_fault ks s.items q r f run }
+  made_is : (f : IsFound d (with_type d.types dyn).at) (z : Bool) → all_fine f.known d.script.items ≡ z → made d ≡ cond z (with_body f.known) (Err not_built)
+  made_is f z e =
+      ap (made_from d (with_type d.types dyn).types) f.found ∙ ap (λ (y : Bool). cond y (with_body f.known) (Err not_built)) e
 
--- a form isn't built, or a fault of names stands
-abbrev IsUnfit : Script → Type 0
-IsUnfit s = (AreBuilt s.items → ⊥) ⊎ ((q : Place) × (r : Reason) × ScopeFault (main_block s) q r)
+  -- the two outcomes of the test
+  data Tested (f : IsFound d (with_type d.types dyn).at) : Type 0 where
+    unfit : made d ≡ Err not_built → (AreBuilt f.names d.script.items → ⊥) → Tested f
+    fit : made d ≡ with_body f.known → all_fine f.known d.script.items ≡ true → AreBuilt f.names d.script.items → Tested f
 
-stops_unfit : (s : Script) → Stops [] (main_block s) → IsUnfit s
-stops_unfit s h =
-    elim (stops_fault [] (main_block s) h) [
-      | inl t ↦ inr (_, _, twice t.before t.rest t.word t.ann t.value t.is (among_Contains (assigned_names t.before) t.word.text t.again))
-      | inr c ↦ (
-          let e : length (newer [] (firsts (targets (main_block s)))) ≡ length (firsts (targets (main_block s))) = ap length (newer_none (firsts (targets (main_block s)))) in
-          let l : 4096 < length (firsts (targets (main_block s))) = omega (arith, e, c) in
-          let g = get_below (firsts (targets (main_block s))) 4096 l in
-          inr (_, _, crowded g.0 g.1)
-          )
-    ]
+  tested : (f : IsFound d (with_type d.types dyn).at) → Tested f
+  tested f = go (all_fine f.known d.script.items) refl
+    where
+      go : (z : Bool) → all_fine f.known d.script.items ≡ z → Tested f
+      go true e = fit (made_is f true e) e (fine_items f.names f.known f.is d.script.items e)
+      go false e = unfit (made_is f false e) (λ b. let y = items_fine f.names f.known f.is d.script.items b in cc)
 
-unread_unfit : (s : Script) (ks : List Known) → Run [] (main_block s) ks → Unknown ks (block_reads (main_block s)) → IsUnfit s
-unread_unfit s ks run (w, c, f) =
-    inr (_, _, unknown w c (λ i. let h : has ks w.text ≡ true = run_has [] ks (main_block s) w.text run ∙ Contains_among (assigned_names (main_block s)) w.text i in cc))
+  -- ---- what the code gives is what the rules say
 
--- ---- the two outcomes of the tests
+  finished_casts : (f : IsFound d (with_type d.types dyn).at) (b : Body) → AreBuilt f.names d.script.items → IsBody f.names f.known f.is (start (with_type d.types dyn).types) d.script.items b
+      → HasCasts d (finished d f.known b)
+  finished_casts f b built h =
+      let classes = cast_classes f.names.classes 0 f.names.classes f.known.classes f.is.classes in
+      let whole : Within f.known.dynamic b.table.types b.table.types = record { keeps = λ k t e. e; dynamic = h.grows.keeps f.known.dynamic.0 dyn (dyn_there f) } in
+      record {
+        names = f.names;
+        main = f.main;
+        built = built;
+        scoped = refl;
+        types = h.grows.distinct (placed.grows.distinct scope.types);
+        classes = subst (λ (cs : List ClassDef). AreClasses cs cs (map class_of f.known.classes)) f.main.classes classes;
+        functions = refl;
+        values = f.is.values;
+        threads = refl;
+        body = subst (λ (l : List CastStmt). ElaboratesBlock b.table.types f.names [] (main_block d.script) l b.table.sites) (sym h.all) (h.elaborates b.table.types whole);
+      }
 
-pub data Tested (s : Script) : Type 0 where
-  unfit : made s ≡ Err not_built → IsUnfit s → Tested s
-  fit : (ks : List Known) → gathered [] s.items ≡ Some ks → all_fine ks s.items ≡ true → Tested s
+  ok_casts : (f : IsFound d (with_type d.types dyn).at) (p : CastScript) → Tested f → made d ≡ Ok p → HasCasts d p
+  ok_casts f p (unfit e h) q = absurd (ok_err (sym q ∙ e))
+  ok_casts f p (fit e y built) q =
+      let b = then_ok (lines_from f.known (start (with_type d.types dyn).types) d.script.items) _ p (sym e ∙ q) in
+      subst (λ (z : CastScript). HasCasts d z) (ok_is b.2) (finished_casts f b.0 built (lines_ok f.names f.known f.is (start (with_type d.types dyn).types) d.script.items b.0 b.1))
 
-made_some : (s : Script) (ks : List Known) → gathered [] s.items ≡ Some ks → made s ≡ made_with s ks
-made_some s ks e = ap (made_from s) e
+  err_refusal : (f : IsFound d (with_type d.types dyn).at) (r : Refusal) → Tested f → made d ≡ Err r → IsRefusal d r
+  err_refusal f r (unfit e h) q = subst (λ (z : Refusal). IsRefusal d z) (err_is (sym e ∙ q)) (unbuilt f.names f.main h)
+  err_refusal f r (fit e y built) q =
+      elim (then_err (lines_from f.known (start (with_type d.types dyn).types) d.script.items) _ r (sym e ∙ q)) [
+        | first_err g ↦ (
+            let h = lines_err f.names f.known f.is (start (with_type d.types dyn).types) d.script.items r (dyn_there f) y g in
+            mistyped f.names h.types r f.main built h.fault
+            )
+        | second_err b g j ↦ absurd (ok_err j)
+      ]
 
-made_lines : (s : Script) (ks : List Known) → gathered [] s.items ≡ Some ks → all_fine ks s.items ≡ true → made s ≡ and_then (lines_from ks [] [] s.items) (λ b. Ok (finished s ks b))
-made_lines s ks e f = made_some s ks e ∙ ap (λ b. cond b (and_then (lines_from ks [] [] s.items) (λ b. Ok (finished s ks b))) (Err not_built)) f
+  pub made_casts : (p : CastScript) → made d ≡ Ok p → HasCasts d p
+  made_casts p q = ok_casts found p (tested found) q
 
-either_unfit : (s : Script) → (AreBuilt s.items → ⊥) ⊎ Stops [] (main_block s) → IsUnfit s
-either_unfit s (inl h) = inl h
-either_unfit s (inr h) = stops_unfit s h
+  pub made_refusal : (r : Refusal) → made d ≡ Err r → IsRefusal d r
+  made_refusal r q = err_refusal found r (tested found) q
 
-either_unread : (s : Script) (ks : List Known) → Run [] (main_block s) ks → (AreBuilt s.items → ⊥) ⊎ Unknown ks (block_reads (main_block s)) → IsUnfit s
-either_unread s ks run (inl h) = inl h
-either_unread s ks run (inr h) = unread_unfit s ks run h
+  -- ---- what the rules say is what the code gives
 
-tested : (s : Script) → Tested s
-tested s = go (gathered [] s.items) refl
-  where
-    fine : (ks : List Known) (b : Bool) → gathered [] s.items ≡ Some ks → all_fine ks s.items ≡ b → Tested s
-    fine ks true e f = fit ks e f
-    fine ks false e f = unfit (made_some s ks e ∙ ap (λ b. cond b (and_then (lines_from ks [] [] s.items) (λ b. Ok (finished s ks b))) (Err not_built)) f) (either_unread s ks (run_of [] ks s.items e) (bad_reads ks s.items f))
+  casts_ok : (f : IsFound d (with_type d.types dyn).at) (p : CastScript) → Tested f → HasCasts d p → (o : CastScript) × (made d ≡ Ok o)
+  casts_ok f p (unfit e h) c = absurd (h (subst (λ (n : Names). AreBuilt n d.script.items) (same_names d c.names f.names c.main f.main) c.built))
+  casts_ok f p (fit e y built) c =
+      let body = subst (λ (n : Names). ElaboratesBlock p.types n [] (main_block d.script) p.main.body p.sites) (same_names d c.names f.names c.main f.main) c.body in
+      let b = lines_again f.names f.known f.is p.types [] p.sites d.script.items p.main.body body (start (with_type d.types dyn).types) in
+      (finished d f.known b.0, e ∙ then_is (lines_from f.known (start (with_type d.types dyn).types) d.script.items) _ b.0 _ b.1 refl)
 
-    go : (o : Option (List Known)) → gathered [] s.items ≡ o → Tested s
-    go None e = unfit (ap (made_from s) e) (either_unfit s (stops_of [] s.items e))
-    go (Some ks) e = fine ks (all_fine ks s.items) e refl
+  -- a script with casts is accepted
+  pub casts_made : (p : CastScript) → HasCasts d p → (o : CastScript) × (made d ≡ Ok o)
+  casts_made p c = casts_ok found p (tested found) c
 
-not_unfit : (s : Script) → IsFine s → IsUnfit s → ⊥
-not_unfit s f (inl h) = h f.built
-not_unfit s f (inr (q, r, h)) = f.named q r h
+  refused_unfit : (f : IsFound d (with_type d.types dyn).at) (n : Names) → IsMainNames d n → (AreBuilt n d.script.items → ⊥) → Tested f → made d ≡ Err not_built
+  refused_unfit f n m h (unfit e i) = e
+  refused_unfit f n m h (fit e y built) = absurd (h (subst (λ (z : Names). AreBuilt z d.script.items) (same_names d f.names n f.main m) built))
 
--- ---- known targets
+  refused_fault : (f : IsFound d (with_type d.types dyn).at) (n : Names) (types : List Ty) (r : Refusal) → IsMainNames d n → AreBuilt n d.script.items → BlockFault types n (main_block d.script) r → Tested f
+      → made d ≡ Err r
+  refused_fault f n types r m built h (unfit e i) = absurd (i (subst (λ (z : Names). AreBuilt z d.script.items) (same_names d n f.names m f.main) built))
+  refused_fault f n types r m built h (fit e y i) =
+      let fault = subst (λ (z : Names). BlockFault types z (main_block d.script) r) (same_names d n f.names m f.main) h in
+      e ∙ then_stops (lines_from f.known (start (with_type d.types dyn).types) d.script.items) _ r (lines_fault_again f.names f.known f.is types d.script.items r y fault (start (with_type d.types dyn).types))
 
-targets_known : (ks : List Known) (ss : List Stmt) → ((x : List ℕ) → among (assigned_names ss) x ≡ true → has ks x ≡ true) → TargetsKnown ks ss
-targets_known ks [] h = tt
-targets_known ks (assign w ann e ∷ ss) h =
-    (h w.text (or_left _ (among (assigned_names ss) w.text) (texts.named w.text w.text refl)), targets_known ks ss (λ x i. h x (or_right _ (among (assigned_names ss) x) i)))
-targets_known ks (_ ∷ ss) h = (tt, targets_known ks ss h)
-
-run_targets : (ks : List Known) (ss : List Stmt) → Run [] ss ks → TargetsKnown ks ss
-run_targets ks ss run = targets_known ks ss (λ x i. run_has [] ks ss x run ∙ i)
-
--- ---- the script with casts
-
-places : (ks : List Known) → HavePlaces base_types (map named ks) (map typed ks)
-places [] = tt
-places (k ∷ ks) = (refl, type_position k.ty, places ks)
-
-none : (t : Ty) → Contains [] t → ⊥
-none t (k, l, e) = omega arith
-
--- t is neither u nor one of these
-other : (t u : Ty) (ts : List Ty) → (u ≡ t → ⊥) → (Contains ts t → ⊥) → Contains (u ∷ ts) t → ⊥
-other t u ts n h (zero, l, e) = n e
-other t u ts n h (suc k, l, e) = h (k, omega arith, e)
-
-abbrev after_str : List Ty
-after_str = nil ∷ []
-
-abbrev after_bool : List Ty
-after_bool = str ∷ after_str
-
-abbrev after_int : List Ty
-after_int = bool ∷ after_bool
-
-dyn_once : Contains (int ∷ after_int) dyn → ⊥
-dyn_once = other dyn int after_int (λ e. cc) (other dyn bool after_bool (λ e. cc) (other dyn str after_str (λ e. cc) (other dyn nil [] (λ e. cc) (none dyn))))
-
-int_once : Contains after_int int → ⊥
-int_once = other int bool after_bool (λ e. cc) (other int str after_str (λ e. cc) (other int nil [] (λ e. cc) (none int)))
-
-bool_once : Contains after_bool bool → ⊥
-bool_once = other bool str after_str (λ e. cc) (other bool nil [] (λ e. cc) (none bool))
-
-types_distinct : AreDistinct base_types
-types_distinct = (dyn_once, (int_once, (bool_once, (other str nil [] (λ e. cc) (none str), (none nil, tt)))))
-
-finished_casts : (s : Script) (ks : List Known) (b : Body) → IsFine s → map named ks ≡ block_names (main_block s) → IsBody ks [] [] s.items b → HasCasts s (finished s ks b)
-finished_casts s ks b f n h =
-    record {
-      fine = f;
-      scope =
-          record {
-            script = refl;
-            types = types_distinct;
-            classes = refl;
-            functions = refl;
-            block = record { values = map typed ks; threads = [] };
-            blocks = refl;
-            values = subst (λ (l : List NamedType). HavePlaces base_types l (map typed ks)) n (places ks);
-            threads = refl;
-          };
-      types = types_distinct;
-      classes = refl;
-      functions = refl;
-      names = n;
-      threads = refl;
-      body = subst (λ (l : _). ElaboratesBlock base_types (map named ks) [] (main_block s) l b.sites) (sym h.all) h.elaborates;
-    }
-
--- ---- what the code gives is what the rules say
-
-ok_casts : (s : Script) (p : CastScript) → Tested s → made s ≡ Ok p → HasCasts s p
-ok_casts s p (unfit e h) q = absurd (ok_err (sym q ∙ e))
-ok_casts s p (fit ks e f) q =
-    let run = run_of [] ks s.items e in
-    let b = then_ok (lines_from ks [] [] s.items) _ p (sym (made_lines s ks e f) ∙ q) in
-    subst (λ (z : CastScript). HasCasts s z) (ok_is b.2)
-    (finished_casts s ks b.0 (fine_script s ks f run) (run_block_names ks (main_block s) run) (lines_ok ks [] [] s.items b.0 b.1))
-
-pub made_casts : (s : Script) (p : CastScript) → made s ≡ Ok p → HasCasts s p
-made_casts s p q = ok_casts s p (tested s) q
-
-unfit_refusal : (s : Script) → IsUnfit s → IsRefusal s not_built
-unfit_refusal s (inl h) = unbuilt h
-unfit_refusal s (inr (q, r, h)) = misnamed q r h
-
-err_refusal : (s : Script) (r : Refusal) → Tested s → made s ≡ Err r → IsRefusal s r
-err_refusal s r (unfit e h) q = subst (λ (z : Refusal). IsRefusal s z) (err_is (sym e ∙ q)) (unfit_refusal s h)
-err_refusal s r (fit ks e f) q =
-    let run = run_of [] ks s.items e in
-    elim (then_err (lines_from ks [] [] s.items) _ r (sym (made_lines s ks e f) ∙ q)) [
-      | first_err g ↦ (
-          let h = lines_err ks [] [] s.items r (run_targets ks (main_block s) run) f g in
-          let fault = subst (λ (l : List NamedType). BlockFault base_types l (main_block s) h.0) (run_block_names ks (main_block s) run) h.2 in
-          subst (λ (z : Refusal). IsRefusal s z) (sym h.1) (mistyped h.0 base_types (fine_script s ks f run) fault)
-          )
-      | second_err b g j ↦ absurd (ok_err j)
-    ]
-
-pub made_refusal : (s : Script) (r : Refusal) → made s ≡ Err r → IsRefusal s r
-made_refusal s r q = err_refusal s r (tested s) q
-
--- ---- what the rules say is what the code gives
-
-casts_ok : (s : Script) (p : CastScript) → Tested s → HasCasts s p → (o : CastScript) × (made s ≡ Ok o)
-casts_ok s p (unfit e h) c = absurd (not_unfit s c.fine h)
-casts_ok s p (fit ks e f) c =
-    let run = run_of [] ks s.items e in
-    let body = subst (λ (l : List NamedType). ElaboratesBlock p.types l [] (main_block s) p.main.body p.sites) (c.names ∙ sym (run_block_names ks (main_block s) run)) c.body in
-    let b = lines_again ks p.types [] p.sites s.items p.main.body f body [] [] in
-    (finished s ks b.0, made_lines s ks e f ∙ then_is (lines_from ks [] [] s.items) _ b.0 _ b.1 refl)
-
--- a script with casts is accepted
-pub casts_made : (s : Script) (p : CastScript) → HasCasts s p → (o : CastScript) × (made s ≡ Ok o)
-casts_made s p c = casts_ok s p (tested s) c
-
-refused_unfit : (s : Script) → Tested s → IsUnfit s → made s ≡ Err not_built
-refused_unfit s (unfit e h) i = e
-refused_unfit s (fit ks e f) i = absurd (not_unfit s (fine_script s ks f (run_of [] ks s.items e)) i)
-
-refused_fault : (s : Script) (types : List Ty) (q : Place) → Tested s → IsFine s → BlockFault types (block_names (main_block s)) (main_block s) q → made s ≡ Err (refused_at q)
-refused_fault s types q (unfit e h) f i = absurd (not_unfit s f h)
-refused_fault s types q (fit ks e g) f i =
-    let run = run_of [] ks s.items e in
-    let fault = subst (λ (l : List NamedType). BlockFault types l (main_block s) q) (sym (run_block_names ks (main_block s) run)) i in
-    made_lines s ks e g
-    ∙ then_stops (lines_from ks [] [] s.items) _ (refused_at q) (lines_fault_again ks types s.items q (run_targets ks (main_block s) run) g fault [] [])
-
--- a script with a refusal is refused so
-pub refusal_made : (s : Script) (r : Refusal) → IsRefusal s r → made s ≡ Err r
-refusal_made s r (unbuilt h) = refused_unfit s (tested s) (inl h)
-refusal_made s r (misnamed q t h) = refused_unfit s (tested s) (inr (q, t, h))
-refusal_made s r (mistyped q types f h) = refused_fault s types q (tested s) f h
+  -- a script with a refusal is refused so
+  pub refusal_made : (r : Refusal) → IsRefusal d r → made d ≡ Err r
+  refusal_made r (unbuilt n m h) = refused_unfit found n m h (tested found)
+  refusal_made r (mistyped n types q m built h) = refused_fault found n types q m built h (tested found)
 
 -- ---- the answer
 
-pub answer_casts : (s : Script) (r : Result CastScript LoadFault) → Gives r (made s) → IfOk r (λ p. HasCasts s p)
-answer_casts s (Ok p) g = made_casts s p g
-answer_casts s (Err f) g = tt
+pub answer_casts : (d : Scoped) (r : Result CastScript LoadFault) → IsScope d.script d → Gives r (made d) → IfOk r (λ p. HasCasts d p)
+answer_casts d (Ok p) s g = made_casts d s p g
+answer_casts d (Err f) s g = tt
 
-pub answer_fault : (s : Script) (r : Result CastScript LoadFault) → Gives r (made s) → IfErr r (λ f. IsFault s f)
-answer_fault s (Ok p) g = tt
-answer_fault s (Err (Refused r)) g = made_refusal s r g
-answer_fault s (Err Memory) g = tt
+pub answer_fault : (d : Scoped) (r : Result CastScript LoadFault) → IsScope d.script d → Gives r (made d) → IfErr r (λ f. IsFault d f)
+answer_fault d (Ok p) s g = tt
+answer_fault d (Err (Refused r)) s g = made_refusal d s r g
+answer_fault d (Err Memory) s g = tt
 
-pub answer_accepts : (s : Script) (r : Result CastScript LoadFault) → Gives r (made s) → (p : CastScript) → HasCasts s p → IsOkUnless r Memory
-answer_accepts s (Ok q) g p h = tt
-answer_accepts s (Err (Refused r)) g p h = let o = casts_made s p h in absurd (ok_err (sym o.1 ∙ g))
-answer_accepts s (Err Memory) g p h = refl
+pub answer_accepts : (d : Scoped) (r : Result CastScript LoadFault) → IsScope d.script d → Gives r (made d) → (p : CastScript) → HasCasts d p → IsOkUnless r Memory
+answer_accepts d (Ok q) s g p h = tt
+answer_accepts d (Err (Refused r)) s g p h = let o = casts_made d s p h in absurd (ok_err (sym o.1 ∙ g))
+answer_accepts d (Err Memory) s g p h = refl
 
-pub answer_refuses : (s : Script) (a : Result CastScript LoadFault) → Gives a (made s) → (r : Refusal) → IsRefusal s r → Refuses a r
-answer_refuses s (Ok p) g r h = ok_err (sym g ∙ refusal_made s r h)
-answer_refuses s (Err (Refused q)) g r h = inl (ap (λ (z : Refusal). Refused z) (err_is (sym g ∙ refusal_made s r h)))
-answer_refuses s (Err Memory) g r h = inr refl
+pub answer_refuses : (d : Scoped) (a : Result CastScript LoadFault) → IsScope d.script d → Gives a (made d) → (r : Refusal) → IsRefusal d r → Refuses a r
+answer_refuses d (Ok p) s g r h = ok_err (sym g ∙ refusal_made d s r h)
+answer_refuses d (Err (Refused q)) s g r h = inl (ap (λ (z : Refusal). Refused z) (err_is (sym g ∙ refusal_made d s r h)))
+answer_refuses d (Err Memory) s g r h = inr refl
 
-pub answer_typed : (s : Script) (r : Result CastScript LoadFault) → Gives r (made s) → IfOk r (λ p. IsWellTypedProgram p)
-answer_typed s (Ok p) g = well_typed s p (made_casts s p g)
-answer_typed s (Err f) g = tt
-
-pub ruleset answers = (answer_casts, answer_fault, answer_refuses, answer_typed)
+pub answer_typed : (d : Scoped) (r : Result CastScript LoadFault) → IsScope d.script d → HaveClassTypes d → Gives r (made d) → IfOk r (λ p. IsWellTypedProgram p)
+answer_typed d (Ok p) s t g = well_typed d p (made_casts d s p g) t
+answer_typed d (Err f) s t g = tt

@@ -1,75 +1,72 @@
--- The names of the main block as the code gathers them, line by line.
-use Rattle.std.specs.Prelude.{ℕ, List, [], ◌∷◌, ◌++◌, length, Bool, true, false, ◌&&◌, Option, Some, None, is_some, is_none, option_and_then, bytes_eq, nat_lt, nat_le, if◌then◌else◌}
-use Rattle.mono_syntax.specs.declared.leaf.Op.TheVariants.{Add}
-use Rattle.mono_syntax.specs.declared.leaf.Word.{Word}
+-- What the code knows of the names of a script.
+use Rattle.std.specs.Prelude.{ℕ, ◌-◌, List, [], ◌∷◌, ◌++◌, length, Option, Some, None, option_and_then, slice_get, bytes_eq, if◌then◌else◌}
+use Rattle.std.specs.Option.{option_map}
+use Rattle.mono_syntax.specs.declared.cast.NamedType.{NamedType}
+use Rattle.mono_syntax.specs.declared.leaf.TyAt.{TyAt}
+use Rattle.mono_syntax.specs.declared.script.BlockNames.{BlockNames}
+use Rattle.mono_syntax.specs.declared.script.Scoped.{Scoped}
+use Rattle.mono_syntax.specs.declared.script.TypedName.{TypedName}
+use Rattle.mono_syntax.specs.declared.tree.ClassDef.{ClassDef}
 use Rattle.mono_syntax.specs.declared.tree.Item.{Item}
 use Rattle.mono_syntax.specs.declared.tree.Item.TheVariants as item
-use Rattle.mono_syntax.specs.Ann.{Ann}
-use Rattle.mono_syntax.specs.Expr.{Expr, Exprs, local, number, text, truth, nil, binary, no_exprs, more_exprs}
-use Rattle.mono_syntax.specs.Stmt.{Stmt, assign, print}
-use Rattle.script_casts.specs.declared.base_type.BaseType.{BaseType}
-use Rattle.script_casts.specs.declared.names.Known.{Known}
-use Rattle.script_casts.specs.BaseTypes.{written_type}
+use Rattle.mono_syntax.specs.Ty.{Ty}
+use Rattle.script_casts.specs.declared.known.Known.{Known}
+use Rattle.script_casts.specs.declared.known.KnownClass.{KnownClass}
+use Rattle.script_casts.specs.Annotations.{known_fields}
 
--- the type of a name
-abbrev pub known_type : List Known → List ℕ → Option BaseType
-known_type [] x = None
-known_type (k ∷ ks) x = if bytes_eq k.name x then Some k.ty else known_type ks x
+-- the class of a name
+abbrev pub known_class : List KnownClass → List ℕ → Option KnownClass
+known_class [] x = None
+known_class (k ∷ ks) x = if bytes_eq k.name x then Some k else known_class ks x
 
--- one more name, where there are fewer than 4,096
-abbrev pub added : List Known → Word → BaseType → Option (List Known)
-added ks w t = if nat_lt (length ks) 4096 then Some (ks ++ record { name = w.text; ty = t } ∷ []) else None
+-- ---- how it is gathered
 
--- an assignment of a name
-abbrev pub assigned : List Known → Word → Option Ann → Option (List Known)
-assigned ks w ann =
-    if is_some (known_type ks w.text)
-    then (if is_none ann then Some ks else None)
-    else option_and_then (added ks w) (written_type ann)
+abbrev pub type_at : List Ty → Option TyAt → Option Ty
+type_at types None = None
+type_at types (Some a) = slice_get types a.0
 
-abbrev pub with_statement : List Known → Stmt → Option (List Known)
-with_statement ks (assign w ann e) = assigned ks w ann
-with_statement ks (print p es) = Some ks
-with_statement ks _ = None
+-- the classes' types, which stand at these positions, behind those that are done
+abbrev pub with_class_type : List Ty → List TyAt → List NamedType → Item → Option (List NamedType)
+with_class_type types places done (item.Class d) = option_map (λ t. done ++ record { name = d.name.text; ty = t } ∷ []) (type_at types (slice_get places (length done)))
+with_class_type types places done i = Some done
 
-abbrev pub with_item : List Known → Item → Option (List Known)
-with_item ks (item.Stmt s) = with_statement ks s
-with_item ks _ = None
+abbrev pub class_types : List Ty → List TyAt → List NamedType → List Item → Option (List NamedType)
+class_types types places done [] = Some done
+class_types types places done (i ∷ is) = option_and_then (λ more. class_types types places more is) (with_class_type types places done i)
 
--- the names of the items behind names that are known
-abbrev pub gathered : List Known → List Item → Option (List Known)
-gathered ks [] = Some ks
-gathered ks (i ∷ is) = option_and_then (λ more. gathered more is) (with_item ks i)
+-- one more class
+abbrev pub classes_and : List NamedType → List KnownClass → ClassDef → Option NamedType → Option (List KnownClass)
+classes_and cs done d None = None
+classes_and cs done d (Some c) =
+    option_map (λ fs. done ++ record { number = length done; name = d.name.text; fields = fs; ty = c.ty } ∷ []) (known_fields cs [] d.fields)
 
--- ---- whether expressions are of the built forms, and read these names alone
+abbrev pub with_class : List NamedType → List KnownClass → Item → Option (List KnownClass)
+with_class cs done (item.Class d) = classes_and cs done d (slice_get cs (length done))
+with_class cs done i = Some done
 
-abbrev pub is_fine : List Known → Expr → Bool
-is_fine ks (local w) = is_some (known_type ks w.text)
-is_fine ks (number p k) = nat_le k 140737488355327
-is_fine ks (text p t) = true
-is_fine ks (truth p b) = true
-is_fine ks (nil p) = true
-is_fine ks (binary Add p a b) = is_fine ks a && is_fine ks b
-is_fine ks _ = false
+-- the classes, whose types are these, behind those that are done
+abbrev pub classes_from : List NamedType → List KnownClass → List Item → Option (List KnownClass)
+classes_from cs done [] = Some done
+classes_from cs done (i ∷ is) = option_and_then (λ more. classes_from cs more is) (with_class cs done i)
 
--- the value of a print that has one
-abbrev pub only_value : Exprs → Option Expr
-only_value (more_exprs e no_exprs) = Some e
-only_value _ = None
+-- the names of a block with their types, behind those that are done
+abbrev pub values_from : List Ty → List NamedType → List TypedName → Option (List NamedType)
+values_from types done [] = Some done
+values_from types done (k ∷ ks) = option_and_then (λ t. values_from types (done ++ record { name = k.name; ty = t } ∷ []) ks) (slice_get types k.ty.0)
 
-abbrev pub is_fine_value : List Known → Option Expr → Bool
-is_fine_value ks None = false
-is_fine_value ks (Some e) = is_fine ks e
+-- the block of the main statements
+abbrev pub last_block : List BlockNames → Option BlockNames
+last_block bs = slice_get bs (length bs - 1)
 
-abbrev pub is_fine_statement : List Known → Stmt → Bool
-is_fine_statement ks (assign w ann e) = is_fine ks e
-is_fine_statement ks (print p es) = is_fine_value ks (only_value es)
-is_fine_statement ks _ = false
+abbrev pub block_values : List Ty → Option BlockNames → Option (List NamedType)
+block_values types None = None
+block_values types (Some b) = values_from types [] b.values
 
-abbrev pub is_fine_item : List Known → Item → Bool
-is_fine_item ks (item.Stmt s) = is_fine_statement ks s
-is_fine_item ks _ = false
+-- all that is known of the names of a script, where `Dyn` has this position
+abbrev pub known_with : Scoped → TyAt → List NamedType → Option Known
+known_with d a cs =
+    option_and_then (λ ks. option_map (λ vs. record { annotations = cs; classes = ks; values = vs; dynamic = a }) (block_values d.types (last_block d.blocks)))
+    (classes_from cs [] d.script.items)
 
-abbrev pub all_fine : List Known → List Item → Bool
-all_fine ks [] = true
-all_fine ks (i ∷ is) = is_fine_item ks i && all_fine ks is
+abbrev pub known_in : Scoped → TyAt → Option Known
+known_in d a = option_and_then (known_with d a) (class_types d.types d.classes [] d.script.items)

@@ -1,11 +1,7 @@
-pub mod BaseTypes
+pub mod Refusals
+pub mod TypeList
+pub mod Annotations
 pub mod KnownNames
-pub mod SourcePlaces
+pub mod Fine
 pub mod Inserted
 pub mod Lines
-pub mod BuiltForms
-pub mod BlockNames
-pub mod ScopeFaults
-pub mod Elaborates
-pub mod TypingFaults
-pub mod HasCasts

@@ -1,83 +1,138 @@
 -- The lines with their casts, and the script that they make, as the code builds them.
-use Rattle.std.specs.Prelude.{List, [], ◌∷◌, ◌++◌, map, Option, Some, None, Result, Ok, Err, if◌then◌else◌}
+use Rattle.std.specs.Prelude.{List, [], ◌∷◌, ◌++◌, length, map, Option, Some, None, Result, Ok, Err, if◌then◌else◌}
+use Rattle.mono_syntax.specs.declared.cast.CastClass.{CastClass}
 use Rattle.mono_syntax.specs.declared.cast.CastScript.{CastScript}
-use Rattle.mono_syntax.specs.declared.cast.NamedType.{NamedType}
-use Rattle.mono_syntax.specs.declared.leaf.Site.{Site}
+use Rattle.mono_syntax.specs.declared.leaf.Kind.TheVariants as kind
+use Rattle.mono_syntax.specs.declared.leaf.TyAt.{TyAt}
 use Rattle.mono_syntax.specs.declared.leaf.Word.{Word}
+use Rattle.mono_syntax.specs.declared.refusal.Reason.TheVariants.{NoField}
 use Rattle.mono_syntax.specs.declared.refusal.Refusal.{Refusal}
-use Rattle.mono_syntax.specs.declared.script.TypedName.{TypedName}
+use Rattle.mono_syntax.specs.declared.script.Scoped.{Scoped}
 use Rattle.mono_syntax.specs.declared.tree.Item.{Item}
 use Rattle.mono_syntax.specs.declared.tree.Item.TheVariants as item
-use Rattle.mono_syntax.specs.declared.tree.Script.{Script}
-use Rattle.mono_syntax.specs.Expr.{Expr}
-use Rattle.mono_syntax.specs.Stmt.{Stmt, assign, print}
-use Rattle.mono_syntax.specs.CastExpr as cast
+use Rattle.mono_syntax.specs.Expr.{Expr, Exprs}
+use Rattle.mono_syntax.specs.Stmt.{Stmt, assign, print, write}
+use Rattle.mono_syntax.specs.CastExpr.{CastExpr}
+use Rattle.mono_syntax.specs.CastExprView.{cast_exprs}
 use Rattle.mono_syntax.specs.CastStmt.{CastStmt}
 use Rattle.mono_syntax.specs.CastStmt as cast_stmt
-use Rattle.script_casts.specs.declared.base_type.BaseType.{BaseType}
-use Rattle.script_casts.specs.declared.names.Known.{Known}
-use Rattle.script_casts.specs.declared.statements.Line.{Line}
+use Rattle.mono_syntax.specs.Ty.{Ty, dyn, obj}
+use Rattle.mono_tree.specs.Static.{is_static}
+use Rattle.mono_tree.specs.WellTyped.{type_of_name}
+use Rattle.typing_rules.specs.BuiltForms.{not_built}
+use Rattle.typing_rules.specs.Members.{field_type}
+use Rattle.typing_rules.specs.TypingFaults.{at}
+use Rattle.script_casts.specs.declared.known.Known.{Known}
+use Rattle.script_casts.specs.declared.known.KnownClass.{KnownClass}
+use Rattle.script_casts.specs.declared.sites.Part.{Part}
+use Rattle.script_casts.specs.declared.sites.Table.{Table}
 use Rattle.script_casts.specs.declared.statements.Body.{Body}
-use Rattle.script_casts.specs.BaseTypes.{position, type_of, base_types}
-use Rattle.script_casts.specs.BuiltForms.{not_built}
-use Rattle.script_casts.specs.KnownNames.{known_type, only_value, gathered, all_fine}
-use Rattle.script_casts.specs.Inserted.{and_then, inserted, used}
+use Rattle.script_casts.specs.declared.statements.Line.{Line}
+use Rattle.script_casts.specs.declared.types.Placed.{Placed}
+use Rattle.script_casts.specs.Fine.{all_fine}
+use Rattle.script_casts.specs.Inserted.{and_then, with_site, with_plain, used, inserted, inserted_all}
+use Rattle.script_casts.specs.KnownNames.{known_in}
+use Rattle.script_casts.specs.TypeList.{with_type}
 
-abbrev pub assigned_value : Option BaseType → List Known → Word → Expr → List Site → Result Line Refusal
-assigned_value None ks w e ss = Err not_built
-assigned_value (Some t) ks w e ss = and_then (inserted ks e ss) (λ x. and_then (used x.part t x.sites) (λ y. Ok (record { statement = cast_stmt.assign w.text y.part.expr; sites = y.sites })))
+abbrev pub assigned_value : Option Ty → Known → Word → Expr → Table → Result Line Refusal
+assigned_value None ks w e b = Err not_built
+assigned_value (Some t) ks w e b =
+    and_then (inserted ks e b) (λ u. and_then (used u.part t u.table) (λ v. Ok (record { statement = cast_stmt.assign w.text v.part.expr; table = v.table })))
 
-abbrev pub printed_value : Option Expr → List Known → List Site → Result Line Refusal
-printed_value None ks ss = Err not_built
-printed_value (Some e) ks ss = and_then (inserted ks e ss) (λ x. Ok (record { statement = cast_stmt.print (cast.more_exprs x.part.expr cast.no_exprs); sites = x.sites }))
+abbrev pub expr_of_part : Part → CastExpr
+expr_of_part x = x.expr
 
-abbrev pub line_of : List Known → Stmt → List Site → Result Line Refusal
-line_of ks (assign w ann e) ss = assigned_value (known_type ks w.text) ks w e ss
-line_of ks (print p es) ss = printed_value (only_value es) ks ss
-line_of ks _ ss = Err not_built
+abbrev pub printed_values : Known → Exprs → Table → Result Line Refusal
+printed_values ks es b = and_then (inserted_all ks [] es b) (λ u. Ok (record { statement = cast_stmt.print (cast_exprs (map expr_of_part u.parts)); table = u.table }))
 
-abbrev pub item_line : List Known → Item → List Site → Result Line Refusal
-item_line ks (item.Stmt s) ss = line_of ks s ss
-item_line ks _ ss = Err not_built
+-- ---- writes to fields
 
--- the items behind lines and sites that are done
-abbrev pub lines_from : List Known → List CastStmt → List Site → List Item → Result Body Refusal
-lines_from ks done ss [] = Ok (record { lines = done; sites = ss })
-lines_from ks done ss (i ∷ is) = and_then (item_line ks i ss) (λ x. lines_from ks (done ++ x.statement ∷ []) x.sites is)
+-- a write of the value v to a field of the object o, which is a `Dyn`
+abbrev pub dyn_write : TyAt → CastExpr → Word → Part → Table → Line
+dyn_write d o w v b =
+    let u = with_plain d b w.place kind.Member in
+    record {
+      statement = cast_stmt.write (Some (length b.sites)) (Some (length u.sites)) dyn o w.text v.expr;
+      table = with_site u v.place kind.Write v.ty dyn;
+    }
+
+-- a write of the value v, which became c, to a field of type t
+abbrev pub static_write : Ty → CastExpr → Word → CastExpr → Part → Table → Line
+static_write t o w c v b =
+    if is_static t
+    then record { statement = cast_stmt.write None None t o w.text c; table = b }
+    else record { statement = cast_stmt.write None (Some (length b.sites)) t o w.text c; table = with_site b v.place kind.Write v.ty t }
+
+-- the value v used at the field's type, and written
+abbrev pub write_used : Ty → CastExpr → Word → Part → Table → Result Line Refusal
+write_used t o w v b = and_then (used v t b) (λ u. Ok (static_write t o w u.part.expr v u.table))
+
+abbrev pub write_typed : Option Ty → CastExpr → Word → Part → Table → Result Line Refusal
+write_typed None o w v b = Err (at w.place NoField)
+write_typed (Some t) o w v b = write_used t o w v b
+
+-- a write to a field of an object of this type
+abbrev pub write_member : TyAt → Ty → CastExpr → Word → Part → Table → Result Line Refusal
+write_member d dyn o w v b = Ok (dyn_write d o w v b)
+write_member d (obj fs) o w v b = write_typed (field_type fs w.text) o w v b
+write_member d t o w v b = Err (at w.place NoField)
+
+abbrev pub written_value : Known → Expr → Word → Expr → Table → Result Line Refusal
+written_value ks o w e b =
+    and_then (inserted ks o b) (λ u. and_then (inserted ks e u.table) (λ v. write_member ks.dynamic u.part.ty u.part.expr w v.part v.table))
+
+-- ---- lines
+
+abbrev pub line_of : Known → Stmt → Table → Result Line Refusal
+line_of ks (assign w ann e) b = assigned_value (type_of_name ks.values w.text) ks w e b
+line_of ks (print p es) b = printed_values ks es b
+line_of ks (write o w e) b = written_value ks o w e b
+line_of ks _ b = Err not_built
+
+-- the lines that are done, and one more
+abbrev pub with_line : Known → Body → Stmt → Result Body Refusal
+with_line ks done s = and_then (line_of ks s done.table) (λ x. Ok (record { lines = done.lines ++ x.statement ∷ []; table = x.table }))
+
+-- a class has no line
+abbrev pub with_item : Known → Body → Item → Result Body Refusal
+with_item ks done (item.Stmt s) = with_line ks done s
+with_item ks done i = Ok done
+
+-- the items behind lines that are done
+abbrev pub lines_from : Known → Body → List Item → Result Body Refusal
+lines_from ks done [] = Ok done
+lines_from ks done (i ∷ is) = and_then (with_item ks done i) (λ more. lines_from ks more is)
 
 -- ---- the script
 
-abbrev pub named : Known → NamedType
-named k = record { name = k.name; ty = type_of k.ty }
+abbrev pub class_of : KnownClass → CastClass
+class_of k = record { params = map (λ f. f.name) k.fields; ty = k.ty }
 
-abbrev pub typed : Known → TypedName
-typed k = record { name = k.name; ty = record { 0 = position k.ty } }
-
-abbrev pub finished : Script → List Known → Body → CastScript
-finished s ks b =
+abbrev pub finished : Scoped → Known → Body → CastScript
+finished d ks b =
     record {
-      scoped =
-          record {
-            script = s;
-            types = base_types;
-            classes = [];
-            functions = [];
-            blocks = record { values = map typed ks; threads = [] } ∷ [];
-          };
-      types = base_types;
-      classes = [];
+      scoped = d;
+      types = b.table.types;
+      classes = map class_of ks.classes;
       functions = [];
-      main = record { names = map named ks; threads = []; body = b.lines };
-      sites = b.sites;
+      main = record { names = ks.values; threads = []; body = b.lines };
+      sites = b.table.sites;
     }
 
--- the script with casts, whose names are these
-abbrev pub made_with : Script → List Known → Result CastScript Refusal
-made_with s ks = if all_fine ks s.items then and_then (lines_from ks [] [] s.items) (λ b. Ok (finished s ks b)) else Err not_built
+-- no line yet, and the list of types with `Dyn`
+abbrev pub start : List Ty → Body
+start types = record { lines = []; table = record { types = types; sites = [] } }
 
-abbrev pub made_from : Script → Option (List Known) → Result CastScript Refusal
-made_from s None = Err not_built
-made_from s (Some ks) = made_with s ks
+abbrev pub made_with : Scoped → List Ty → Known → Result CastScript Refusal
+made_with d types ks = if all_fine ks d.script.items then and_then (lines_from ks (start types) d.script.items) (λ b. Ok (finished d ks b)) else Err not_built
 
-abbrev pub made : Script → Result CastScript Refusal
-made s = made_from s (gathered [] s.items)
+abbrev pub made_from : Scoped → List Ty → Option Known → Result CastScript Refusal
+made_from d types None = Err not_built
+made_from d types (Some ks) = made_with d types ks
+
+-- the script with its casts, where the list of types begins so
+abbrev pub made_at : Scoped → Placed → Result CastScript Refusal
+made_at d x = made_from d x.types (known_in d x.at)
+
+abbrev pub made : Scoped → Result CastScript Refusal
+made d = made_at d (with_type d.types dyn)

@@ -1,36 +1,23 @@
-ghost use Rattle.std.specs.Prelude.{◌≡◌, [], IfOk, IfErr, IsOkUnless, map};
+ghost use Rattle.std.specs.Prelude.{◌≡◌, IfOk, IfErr, IsOkUnless, Ok, map};
 ghost use Rattle.mono_syntax.specs.declared.cast.CastScript.{CastScript};
 ghost use Rattle.mono_syntax.specs.declared.refusal.Refusal.{Refusal};
+ghost use Rattle.mono_syntax.specs.Ty.{dyn};
 ghost use Rattle.mono_tree.specs.WellTyped.{IsWellTypedProgram};
-ghost use Rattle.script_casts.specs.BaseTypes.{base_types, type_of};
-ghost use Rattle.script_casts.specs.HasCasts.{HasCasts, IsRefusal, IsFault, Refuses};
-ghost use Rattle.script_casts.specs.Inserted.{Gives};
-ghost use Rattle.script_casts.specs.Lines.{named, typed, finished, made};
+ghost use Rattle.script_rules.specs.Scoping.{IsScope};
+ghost use Rattle.typing_rules.specs.HasCasts.{HasCasts, IsRefusal, IsFault, HaveClassTypes};
+ghost use Rattle.script_casts.specs.Lines.{class_of, finished, made_with, made_at, made};
+ghost use Rattle.script_casts.specs.TypeList.{with_type};
+ghost use Rattle.script_casts.specs.Refusals.{Gives, Refuses};
 
-use crate::base_type::{BaseType, base_types, position};
-use crate::inserting::NOT_BUILT;
-use crate::names::{Known, gathered};
-use crate::scope::all_fine;
+use crate::fine::all_fine;
+use crate::known::{Known, KnownClass, known_in};
+use crate::sites::{NOT_BUILT, Table};
 use crate::statements::{Body, all_lines};
+use crate::types::{Placed, new_type, with_type};
 use mono_list::Shared;
-use mono_syntax::{
-    BlockNames, CastBlock, CastScript, LoadFault, NamedType, Scoped, Script, Ty, TypedName,
-};
+use mono_syntax::{CastBlock, CastClass, CastScript, Field, LoadFault, Name, Scoped, Ty, TyKind};
 use sqlite_items::Items;
 use std::alloc::{AllocError, Global};
-
-fn shared_type(types: &[Shared<Ty>], ty: BaseType) -> Result<Shared<Ty>, AllocError>
-    requires { types.now ≡ base_types }
-    ensures { IfOk result (λ shared. shared ≡ type_of ty) }
-{
-    match ty {
-        BaseType::Dyn => types[0].share(),
-        BaseType::Int => types[1].share(),
-        BaseType::Bool => types[2].share(),
-        BaseType::Str => types[3].share(),
-        BaseType::Nil => types[4].share(),
-    }
-}
 
 fn shared_types(alloc: Global, types: &[Shared<Ty>]) -> Result<Items<Shared<Ty>>, AllocError>
     ensures { IfOk result (λ shared. shared ≡ types.now) }
@@ -42,119 +29,123 @@ fn shared_types(alloc: Global, types: &[Shared<Ty>]) -> Result<Items<Shared<Ty>>
     Ok(shared)
 }
 
-/// The names of the main block with their types.
-fn named(
-    alloc: Global,
-    names: &[Known],
-    types: &[Shared<Ty>],
-) -> Result<Items<NamedType>, AllocError>
-    requires { types.now ≡ base_types }
-    ensures { IfOk result (λ all. all ≡ map named names.now) }
+fn field_names(alloc: Global, fields: &[Field]) -> Result<Items<Name>, AllocError>
+    ensures { IfOk result (λ names. names ≡ map (λ f. f.name) fields.now) }
 {
-    let mut all = Items::new(alloc);
-    for known in names {
-        let name = known.name.share()?;
-        let ty = shared_type(types, known.ty)?;
-        all.push(NamedType { name, ty })?;
+    let mut names = Items::new(alloc);
+    for field in fields {
+        names.push(field.name.share()?)?;
     }
-    Ok(all)
+    Ok(names)
 }
 
-/// The names of the main block with the places of their types.
-fn typed(alloc: Global, names: &[Known]) -> Result<Items<TypedName>, AllocError>
-    ensures { IfOk result (λ all. all ≡ map typed names.now) }
+/// The classes with their field names in declared order, and their types.
+fn cast_classes(alloc: Global, classes: &[KnownClass]) -> Result<Items<CastClass>, AllocError>
+    ensures { IfOk result (λ all. all ≡ map class_of classes.now) }
 {
     let mut all = Items::new(alloc);
-    for known in names {
-        let name = known.name.share()?;
-        let ty = position(known.ty);
-        all.push(TypedName { name, ty })?;
+    for class in classes {
+        let params = field_names(alloc, class.fields.as_slice())?;
+        let ty = class.ty.share()?;
+        all.push(CastClass { params, ty })?;
     }
     Ok(all)
-}
-
-fn scoped(
-    alloc: Global,
-    script: &Script,
-    names: &[Known],
-    types: &[Shared<Ty>],
-) -> Result<Scoped, AllocError>
-    requires { types.now ≡ base_types }
-    ensures { IfOk result (λ scope. scope ≡ (finished script.now names.now (record { lines = []; sites = [] })).scoped) }
-{
-    let script = Script {
-        items: script.items.share()?,
-    };
-    let mut blocks = Items::new(alloc);
-    blocks.push(BlockNames {
-        values: typed(alloc, names)?,
-        threads: Items::new(alloc),
-    })?;
-    Ok(Scoped {
-        script: Shared::new(alloc, script)?,
-        types: shared_types(alloc, types)?,
-        classes: Items::new(alloc),
-        functions: Items::new(alloc),
-        blocks,
-    })
 }
 
 fn finished(
     alloc: Global,
-    script: &Script,
-    names: &[Known],
+    scoped: Shared<Scoped>,
+    known: Known,
     body: Body,
 ) -> Result<CastScript, AllocError>
-    ensures { IfOk result (λ p. p ≡ finished script.now names.now body) }
+    ensures { IfOk result (λ p. p ≡ finished scoped known body) }
 {
-    let types = base_types(alloc)?;
-    let scoped = scoped(alloc, script, names, types.as_slice())?;
+    let classes = cast_classes(alloc, known.classes.as_slice())?;
+    let Body { lines, table } = body;
     let main = CastBlock {
-        names: named(alloc, names, types.as_slice())?,
+        names: known.values,
         threads: Items::new(alloc),
-        body: Shared::new(alloc, body.lines)?,
+        body: Shared::new(alloc, lines)?,
     };
     Ok(CastScript {
-        scoped: Shared::new(alloc, scoped)?,
-        types,
-        classes: Items::new(alloc),
+        scoped,
+        types: table.types,
+        classes,
         functions: Items::new(alloc),
         main,
-        sites: body.sites,
+        sites: table.sites,
     })
 }
 
-fn made(alloc: Global, script: &Script) -> Result<CastScript, LoadFault>
-    ensures { Gives result (made script.now) }
+fn made_with(
+    alloc: Global,
+    scoped: Shared<Scoped>,
+    types: Items<Shared<Ty>>,
+    known: Known,
+) -> Result<CastScript, LoadFault>
+    ensures { Gives result (made_with scoped types known) }
 {
-    let items = script.items.get().as_slice();
-    let Some(names) = gathered(alloc, items)? else {
-        return Err(LoadFault::Refused(NOT_BUILT));
-    };
-    if !all_fine(names.as_slice(), items) {
+    let items = scoped.get().script.get().items.get().as_slice();
+    if !all_fine(&known, items) {
         return Err(LoadFault::Refused(NOT_BUILT));
     }
-    let body = all_lines(alloc, names.as_slice(), items)?;
-    let made = finished(alloc, script, names.as_slice(), body)?;
+    let table = Table {
+        types,
+        sites: Items::new(alloc),
+    };
+    let start = Body {
+        lines: Items::new(alloc),
+        table,
+    };
+    let body = all_lines(alloc, &known, start, items)?;
+    let made = finished(alloc, scoped, known, body)?;
     Ok(made)
 }
 
-/// The script with its casts, or its first refusal. A script is refused at its first place as not built where it has a
-/// form or a fault of names that this version doesn't serve, and else at the first use of a value at a type that has no
-/// meet with the value's own.
+/// The scope's list of types with `Dyn`, and its position.
+fn begun(alloc: Global, scoped: &Scoped) -> Result<Placed, LoadFault>
+    ensures { Gives result (Ok (with_type scoped.now.types dyn)) }
+{
+    let dynamic = new_type(alloc, TyKind::Dyn)?;
+    let types = shared_types(alloc, scoped.types.as_slice())?;
+    with_type(types, &dynamic)
+}
+
+fn made_at(alloc: Global, scoped: Scoped, start: Placed) -> Result<CastScript, LoadFault>
+    ensures { Gives result (made_at scoped start) }
+{
+    let Placed { at, types } = start;
+    let Some(known) = known_in(alloc, &scoped, at)? else {
+        return Err(LoadFault::Refused(NOT_BUILT));
+    };
+    let scoped = Shared::new(alloc, scoped)?;
+    made_with(alloc, scoped, types, known)
+}
+
+fn made(alloc: Global, scoped: Scoped) -> Result<CastScript, LoadFault>
+    ensures { Gives result (made scoped) }
+{
+    let start = begun(alloc, &scoped)?;
+    made_at(alloc, scoped, start)
+}
+
+/// The script with its casts, or its first refusal. A script is refused at its first place as not built where it has a form
+/// that this version doesn't serve. Else it is refused at the first use of a value at a type that has no meet with the
+/// value's own, the first field that isn't there, or the first new object with too many or too few arguments.
 ///
-/// `Dyn`, `int`, `bool`, `str` and `None` are its types, in this order. A site of another kind than Cast has `Dyn` as its
-/// source and its target.
-#[tactic(auto, using(crate::proofs::ScriptLaws::answers))]
-pub fn with_casts(alloc: Global, script: &Script) -> Result<CastScript, LoadFault>
-    ensures accepted { IfOk result (HasCasts script.now) }
-    ensures refused { IfErr result (IsFault script.now) }
+/// The list of types begins with that of the scope; `Dyn` and the types of casts and writes come behind where they aren't in
+/// it yet. A site of a kind without types has `Dyn` as its source and its target.
+pub fn with_casts(alloc: Global, scoped: Scoped) -> Result<CastScript, LoadFault>
+    requires scope { IsScope scoped.script scoped }
+    requires types { HaveClassTypes scoped }
+    ensures accepted { IfOk result (HasCasts scoped) }
+    ensures refused { IfErr result (IsFault scoped) }
 
     // What the rules accept is accepted, and what they refuse is refused so, unless there is no memory.
-    ensures accepts { (p : CastScript) → HasCasts script.now p → IsOkUnless result LoadFault.Memory }
-    ensures refuses { (r : Refusal) → IsRefusal script.now r → Refuses result r }
+    ensures accepts { (p : CastScript) → HasCasts scoped p → IsOkUnless result LoadFault.Memory }
+    ensures refuses { (r : Refusal) → IsRefusal scoped r → Refuses result r }
 
     ensures typed { IfOk result IsWellTypedProgram }
 {
-    made(alloc, script)
+    made(alloc, scoped)
 }

@@ -1,110 +1,248 @@
-ghost use Rattle.std.specs.Prelude.{◌≡◌, []};
+ghost use Rattle.std.specs.Prelude.{◌≡◌, IfOk, Ok, map};
 ghost use Rattle.std.specs.Option.{option_copied};
-ghost use Rattle.script_casts.specs.Inserted.{Gives};
-ghost use Rattle.script_casts.specs.Lines.{assigned_value, printed_value, line_of, item_line, lines_from};
+ghost use Rattle.mono_syntax.specs.ExprView.{exprs};
+ghost use Rattle.script_casts.specs.Lines.{assigned_value, expr_of_part, printed_values, dyn_write, static_write, write_used, write_typed, write_member, written_value, line_of, with_line, with_item, lines_from};
+ghost use Rattle.script_casts.specs.Refusals.{Gives};
 
-use crate::base_type::BaseType;
-use crate::inserting::{NOT_BUILT, inserted, used};
-use crate::names::{Known, known_type};
-use crate::scope::only_value;
-use mono_syntax::{CastStmt, CastStmtKind, Expr, Item, LoadFault, Site, Stmt, StmtKind, Word};
+use crate::annotations::type_of;
+use crate::inserting::{inserted, inserted_all};
+use crate::known::{Known, field_of};
+use crate::objects::Parts;
+use crate::sites::{Cast, NOT_BUILT, Part, Table, shared, with_plain_site, with_site};
+use crate::types::{is_fully_static, new_type};
+use crate::uses::{no_field, used};
+use mono_list::Shared;
+use mono_syntax::{
+    CastExpr, CastStmt, CastStmtKind, Expr, Item, Kind, LoadFault, Stmt, StmtKind, Ty, TyAt,
+    TyKind, Word,
+};
 use sqlite_items::Items;
-use std::alloc::Global;
+use std::alloc::{AllocError, Global};
 
 /// A statement with its casts, and all sites so far.
 #[derive(Drop)]
 pub struct Line {
     pub statement: CastStmt,
-    pub sites: Items<Site>,
+    pub table: Table,
 }
 
-/// All statements with their casts, and all sites.
+/// Statements with their casts, and all sites so far.
 #[derive(Drop)]
 pub struct Body {
     pub lines: Items<CastStmt>,
-    pub sites: Items<Site>,
+    pub table: Table,
 }
 
 fn assigned_value(
     alloc: Global,
-    ty: Option<BaseType>,
-    names: &[Known],
+    ty: Option<&Shared<Ty>>,
+    known: &Known,
     word: &Word,
     e: &Expr,
-    sites: Items<Site>,
+    table: Table,
 ) -> Result<Line, LoadFault>
-    ensures { Gives result (assigned_value ty names.now word.now e.now sites) }
+    ensures { Gives result (assigned_value (option_copied ty.entry) known.now word.now e.now table) }
 {
     let Some(ty) = ty else {
         return Err(LoadFault::Refused(NOT_BUILT));
     };
-    let value = inserted(alloc, names, e, sites)?;
-    let value = used(alloc, value.part, ty, value.sites)?;
-    let kind = CastStmtKind::Assign(word.text.share()?, value.part.expr);
+    let value = inserted(alloc, known, e, table)?;
+    let Cast { part, table } = used(alloc, value.part, ty, value.table)?;
+    let kind = CastStmtKind::Assign(word.text.share()?, part.expr);
     let statement = CastStmt { kind };
-    let sites = value.sites;
-    Ok(Line { statement, sites })
+    Ok(Line { statement, table })
 }
 
-fn printed_value(
-    alloc: Global,
-    e: Option<&Expr>,
-    names: &[Known],
-    sites: Items<Site>,
-) -> Result<Line, LoadFault>
-    ensures { Gives result (printed_value (option_copied e.entry) names.now sites) }
+fn exprs_of(alloc: Global, parts: &[Part]) -> Result<Items<Shared<CastExpr>>, AllocError>
+    ensures { IfOk result (λ all. all ≡ map expr_of_part parts.now) }
 {
-    let Some(e) = e else {
-        return Err(LoadFault::Refused(NOT_BUILT));
-    };
-    let value = inserted(alloc, names, e, sites)?;
-    let mut values = Items::new(alloc);
-    values.push(value.part.expr)?;
-    let kind = CastStmtKind::Print(values);
-    let statement = CastStmt { kind };
-    let sites = value.sites;
-    Ok(Line { statement, sites })
+    let mut all = Items::new(alloc);
+    for part in parts {
+        all.push(part.expr.share()?)?;
+    }
+    Ok(all)
 }
 
-fn line_of(alloc: Global, names: &[Known], s: &Stmt, sites: Items<Site>) -> Result<Line, LoadFault>
-    ensures { Gives result (line_of names.now s.now sites) }
+fn printed_values(
+    alloc: Global,
+    known: &Known,
+    es: &[Expr],
+    table: Table,
+) -> Result<Line, LoadFault>
+    ensures { Gives result (printed_values known.now (exprs es.now) table) }
+{
+    let Parts { parts, table } = inserted_all(alloc, known, es, table)?;
+    let kind = CastStmtKind::Print(exprs_of(alloc, parts.as_slice())?);
+    let statement = CastStmt { kind };
+    Ok(Line { statement, table })
+}
+
+/// A write to a field of a `Dyn`.
+fn dyn_write(
+    alloc: Global,
+    dynamic: TyAt,
+    object: Shared<CastExpr>,
+    word: &Word,
+    value: Part,
+    table: Table,
+) -> Result<Line, LoadFault>
+    ensures { Gives result (Ok (dyn_write dynamic object word.now value table)) }
+{
+    let (member, table) = with_plain_site(dynamic, table, word.place, Kind::Member)?;
+    let ty = new_type(alloc, TyKind::Dyn)?;
+    let (site, table) = with_site(table, value.place, Kind::Write, &value.ty, &ty)?;
+    let name = word.text.share()?;
+    let kind = CastStmtKind::Write(Some(member), Some(site), ty, object, name, value.expr);
+    let statement = CastStmt { kind };
+    Ok(Line { statement, table })
+}
+
+/// A write to a field of a type, of what the value became. It is tested once more where that type isn't fully static, since the field may have
+/// become more precise.
+fn static_write(
+    ty: &Shared<Ty>,
+    object: Shared<CastExpr>,
+    word: &Word,
+    expr: Shared<CastExpr>,
+    value: &Part,
+    table: Table,
+) -> Result<Line, LoadFault>
+    ensures { Gives result (Ok (static_write ty.now object word.now expr value.now table)) }
+{
+    let target = ty.share()?;
+    let name = word.text.share()?;
+    if is_fully_static(ty.get()) {
+        let kind = CastStmtKind::Write(None, None, target, object, name, expr);
+        let statement = CastStmt { kind };
+        return Ok(Line { statement, table });
+    }
+    let (site, table) = with_site(table, value.place, Kind::Write, &value.ty, ty)?;
+    let kind = CastStmtKind::Write(None, Some(site), target, object, name, expr);
+    let statement = CastStmt { kind };
+    Ok(Line { statement, table })
+}
+
+/// A write to a field of a type, at which the value is used.
+fn write_used(
+    alloc: Global,
+    ty: &Shared<Ty>,
+    object: Shared<CastExpr>,
+    word: &Word,
+    value: Part,
+    table: Table,
+) -> Result<Line, LoadFault>
+    ensures { Gives result (write_used ty.now object word.now value table) }
+{
+    let Cast { part, table } = used(alloc, shared(&value)?, ty, table)?;
+    static_write(ty, object, word, part.expr, &value, table)
+}
+
+fn write_typed(
+    alloc: Global,
+    ty: Option<&Shared<Ty>>,
+    object: Shared<CastExpr>,
+    word: &Word,
+    value: Part,
+    table: Table,
+) -> Result<Line, LoadFault>
+    ensures { Gives result (write_typed (option_copied ty.entry) object word.now value table) }
+{
+    match ty {
+        Some(ty) => write_used(alloc, ty, object, word, value, table),
+        None => Err(no_field(word)),
+    }
+}
+
+/// A write to a field: of a `Dyn`, or of an object that has it.
+fn write_member(
+    alloc: Global,
+    dynamic: TyAt,
+    object: Part,
+    word: &Word,
+    value: Part,
+    table: Table,
+) -> Result<Line, LoadFault>
+    ensures { Gives result (write_member dynamic object.ty object.expr word.now value table) }
+{
+    let Part { expr, place: _, ty } = object;
+    match &ty.get().kind {
+        TyKind::Dyn => dyn_write(alloc, dynamic, expr, word, value, table),
+        TyKind::Obj(members) => {
+            let field = field_of(members.as_slice(), &word.text);
+            write_typed(alloc, field, expr, word, value, table)
+        }
+        _ => Err(no_field(word)),
+    }
+}
+
+fn written_value(
+    alloc: Global,
+    known: &Known,
+    object: &Expr,
+    word: &Word,
+    e: &Expr,
+    table: Table,
+) -> Result<Line, LoadFault>
+    ensures { Gives result (written_value known.now object.now word.now e.now table) }
+{
+    let object = inserted(alloc, known, object, table)?;
+    let value = inserted(alloc, known, e, object.table)?;
+    write_member(
+        alloc,
+        known.dynamic,
+        object.part,
+        word,
+        value.part,
+        value.table,
+    )
+}
+
+fn line_of(alloc: Global, known: &Known, s: &Stmt, table: Table) -> Result<Line, LoadFault>
+    ensures { Gives result (line_of known.now s.now table) }
 {
     match &s.kind {
         StmtKind::Assign(word, _, e) => {
-            let ty = known_type(names, &word.text);
-            assigned_value(alloc, ty, names, word, e, sites)
+            let ty = type_of(known.values.as_slice(), &word.text);
+            assigned_value(alloc, ty, known, word, e, table)
         }
-        StmtKind::Print(_, values) => {
-            printed_value(alloc, only_value(values.as_slice()), names, sites)
-        }
+        StmtKind::Print(_, es) => printed_values(alloc, known, es.as_slice(), table),
+        StmtKind::Write(o, word, e) => written_value(alloc, known, o, word, e, table),
         _ => Err(LoadFault::Refused(NOT_BUILT)),
     }
 }
 
-fn item_line(
-    alloc: Global,
-    names: &[Known],
-    item: &Item,
-    sites: Items<Site>,
-) -> Result<Line, LoadFault>
-    ensures { Gives result (item_line names.now item.now sites) }
+fn with_line(alloc: Global, known: &Known, done: Body, s: &Stmt) -> Result<Body, LoadFault>
+    ensures { Gives result (with_line known.now done s.now) }
+{
+    let Body { mut lines, table } = done;
+    let line = line_of(alloc, known, s, table)?;
+    lines.push(line.statement)?;
+    let table = line.table;
+    Ok(Body { lines, table })
+}
+
+/// The lines that are done, and that of one more item. A class has none.
+fn with_item(alloc: Global, known: &Known, done: Body, item: &Item) -> Result<Body, LoadFault>
+    ensures { Gives result (with_item known.now done item.now) }
 {
     match item {
-        Item::Stmt(s) => line_of(alloc, names, s, sites),
-        _ => Err(LoadFault::Refused(NOT_BUILT)),
+        Item::Stmt(s) => with_line(alloc, known, done, s),
+        _ => Ok(done),
     }
 }
 
-/// All lines with their casts, or the first refusal of typing.
-pub fn all_lines(alloc: Global, names: &[Known], items: &[Item]) -> Result<Body, LoadFault>
-    ensures { Gives result (lines_from names.now [] [] items.now) }
+/// All lines with their casts behind those that are done, or the first refusal of typing.
+pub fn all_lines(
+    alloc: Global,
+    known: &Known,
+    start: Body,
+    items: &[Item],
+) -> Result<Body, LoadFault>
+    ensures { Gives result (lines_from known.now start items.now) }
 {
-    let mut lines = Items::new(alloc);
-    let mut sites = Items::new(alloc);
+    let mut done = start;
     for item in items {
-        let line = item_line(alloc, names, item, sites)?;
-        lines.push(line.statement)?;
-        sites = line.sites;
+        done = with_item(alloc, known, done, item)?;
     }
-    Ok(Body { lines, sites })
+    Ok(done)
 }
