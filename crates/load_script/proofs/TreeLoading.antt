@@ -1,0 +1,99 @@
+-- What a tree without a fault of size comes to.
+use Rattle.std.proofs.Common.{◌≡◌, ◌⊎◌, inl, inr, [], Option, Some, None, Result, Ok, Err, IfOk, IfErr, refl, sym, ◌∙◌, subst, ap}
+use Rattle.std.specs.Prelude.{IsOkUnless, MatchOption}
+use Rattle.mono_list.proofs.Cases.{none_some}
+use Rattle.mono_syntax.specs.declared.cast.CastScript.{CastScript}
+use Rattle.mono_syntax.specs.declared.refusal.LoadFault.{LoadFault}
+use Rattle.mono_syntax.specs.declared.refusal.LoadFault.TheVariants.{Refused, Memory}
+use Rattle.mono_syntax.specs.declared.refusal.Refusal.{Refusal}
+use Rattle.mono_syntax.specs.declared.script.Scoped.{Scoped}
+use Rattle.mono_syntax.specs.declared.tree.Script.{Script}
+use Rattle.class_types.specs.FirstFault.{IsFirst, IsFaultless}
+use Rattle.class_types.specs.SizeFaults.{SizeFault}
+use Rattle.name_scope.specs.ScopeFaults as scope
+use Rattle.name_scope.specs.ScopeFaults.{ScopeFault, IsRight, IsScopeRefusal}
+use Rattle.script_casts.specs.Refusals.{Refuses}
+use Rattle.script_rules.specs.BlockNames.{firsts, all_targets}
+use Rattle.script_rules.specs.Scoping.{IsScope, class_list, main_block}
+use Rattle.typing_rules.specs.BuiltForms.{AreBuilt, not_built}
+use Rattle.typing_rules.specs.HasCasts as casts
+use Rattle.typing_rules.specs.HasCasts.{AreNames, HasCasts, IsMainNames, IsRefusal, unbuilt, HaveClassTypes}
+use Rattle.typing_rules.specs.ClassLimits.{AreFit}
+use Rattle.typing_rules.specs.Members.{Names}
+use Rattle.typing_rules.specs.TypingFaults.{BlockFault}
+use Rattle.typing_rules.proofs.ClassTypeLaws.{class_types}
+use Rattle.load_script.specs.TreePhases.{IsTreeProgram, RefusesTree, too_large, misnamed, mistyped, IsFault, Gives}
+use Rattle.load_script.proofs.Fitness.{fit}
+
+-- ---- what a script is refused for by its types hangs on its tree alone
+
+names_move : (d e : Scoped) → d.script ≡ e.script → (names : Names) → IsMainNames d names → IsMainNames e names
+names_move d e same names h = record {
+  classes = h.classes ∙ ap class_list same;
+  values = subst (λ (s : Script). AreNames (class_list s) (firsts (all_targets [] (main_block s))) names.values) same h.values;
+}
+
+refusal_moves : (d e : Scoped) → d.script ≡ e.script → (r : Refusal) → IsRefusal d r → IsRefusal e r
+refusal_moves d e same r (unbuilt names main n) = unbuilt names (names_move d e same names main) (λ b. n (subst (λ (s : Script). AreBuilt names s.items) (sym same) b))
+refusal_moves d e same r (casts.mistyped names types q main b f) =
+    casts.mistyped names types q (names_move d e same names main) (subst (λ (s : Script). AreBuilt names s.items) same b)
+    (subst (λ (s : Script). BlockFault types names (main_block s) q) same f)
+
+-- ---- behind the names
+
+pub has_types : (s : Script) (d : Scoped) → IsRight s → IsScope s d → HaveClassTypes d
+has_types s d right sc c t stands is =
+    let same : class_list d.script ≡ class_list s = ap class_list sc.script in
+    class_types (class_list d.script) (subst (λ l. AreFit l) (sym same) (fit s right)) c t stands is
+
+pub own_scope : (s : Script) (d : Scoped) → IsScope s d → IsScope d.script d
+own_scope s d sc = subst (λ (x : Script). IsScope x d) (sym sc.script) sc
+
+pub sized_program : (s : Script) (d : Scoped) → IsRight s → IsScope s d → (r : Result CastScript LoadFault) → IfOk r (HasCasts d) → IfOk r (IsTreeProgram s)
+sized_program s d right sc (Ok p) h = record { right = right; scoped = d; scope = sc; casts = h }
+sized_program s d right sc (Err f) h = tt
+
+pub sized_fault : (s : Script) (d : Scoped) → IsRight s → IsScope s d → (r : Result CastScript LoadFault) → IfErr r (casts.IsFault d) → IfErr r (IsFault (RefusesTree s))
+sized_fault s d right sc (Ok p) h = tt
+sized_fault s d right sc (Err (Refused r)) h = mistyped right sc h
+sized_fault s d right sc (Err Memory) h = tt
+
+gives : (r : Result CastScript LoadFault) (q : Refusal) → Refuses r q → Gives r q
+gives (Ok p) q h = h
+gives (Err f) q h = h
+
+pub sized_refuses : (s : Script) (d : Scoped) → IsRight s → IsScope s d → (r : Result CastScript LoadFault) → ((q : Refusal) → IsRefusal d q → Refuses r q)
+    → (q : Refusal) → RefusesTree s q → Gives r q
+sized_refuses s d right sc r h q (too_large f) = absurd (right.sizes _ _ f.stands)
+sized_refuses s d right sc r h q (misnamed z f) = absurd (right.names _ _ f.stands)
+sized_refuses s d right sc r h q (mistyped {d = e} k se f) = gives r q (h q (refusal_moves e d (se.script ∙ sym sc.script) q f))
+
+-- ---- where names are wrong
+
+pub named_fault : (s : Script) → IsFaultless (SizeFault s) → (f : LoadFault) → scope.IsFault s f → IsFault (RefusesTree s) f
+named_fault s sizes (Refused r) (scope.misnamed f) = misnamed sizes f
+named_fault s sizes (Refused r) (scope.oversized z f) = absurd (sizes _ _ f.stands)
+named_fault s sizes Memory h = tt
+
+abbrev no_scope : LoadFault → Result Scoped LoadFault
+no_scope f = Err f
+
+abbrev pub no_program : LoadFault → Result CastScript LoadFault
+no_program f = Err f
+
+pub named_refuses : (s : Script) → IsFaultless (SizeFault s) → (f : LoadFault) → (IsRight s → IsOkUnless (no_scope f) Memory)
+    → ((q : Refusal) → IsScopeRefusal s q → scope.Refuses (no_scope f) q) → (q : Refusal) → RefusesTree s q → Gives (no_program f) q
+named_refuses s sizes f accepts refuses q (too_large g) = absurd (sizes _ _ g.stands)
+named_refuses s sizes f accepts refuses q (misnamed z g) = refuses q (scope.misnamed g)
+named_refuses s sizes f accepts refuses q (mistyped k se g) = inr (accepts k)
+
+-- ---- where something is too large
+
+pub large_found : (s : Script) (o : Option Refusal) (r : Refusal) → o ≡ Some r → MatchOption o (IsFaultless (SizeFault s)) (IsFirst (SizeFault s)) → RefusesTree s not_built
+large_found s None r e h = none_some (RefusesTree s not_built) e
+large_found s (Some q) r e h = too_large h
+
+pub large_refuses : (s : Script) (r : Refusal) → IsFirst (SizeFault s) r → (q : Refusal) → RefusesTree s q → Gives (no_program (Refused not_built)) q
+large_refuses s r f q (too_large g) = inl refl
+large_refuses s r f q (misnamed z g) = absurd (z _ _ f.stands)
+large_refuses s r f q (mistyped k se g) = absurd (k.sizes _ _ f.stands)

@@ -1,0 +1,2 @@
+pub mod TreePhases
+pub mod Phases

@@ -1,0 +1,40 @@
+-- From the tree of a script to the script with its casts: its sizes are looked at, its names get their types, and it gets
+-- its casts. The first phase that refuses ends it.
+use Rattle.std.specs.Prelude.{◌≡◌, ◌⊎◌, Result, Ok, Err}
+use Rattle.mono_syntax.specs.declared.cast.CastScript.{CastScript}
+use Rattle.mono_syntax.specs.declared.refusal.LoadFault.{LoadFault}
+use Rattle.mono_syntax.specs.declared.refusal.LoadFault.TheVariants.{Refused, Memory}
+use Rattle.mono_syntax.specs.declared.refusal.Refusal.{Refusal}
+use Rattle.mono_syntax.specs.declared.script.Scoped.{Scoped}
+use Rattle.mono_syntax.specs.declared.tree.Script.{Script}
+use Rattle.class_types.specs.FirstFault.{IsFirst, IsFaultless}
+use Rattle.class_types.specs.SizeFaults.{SizeFault}
+use Rattle.name_scope.specs.ScopeFaults.{ScopeFault, IsRight}
+use Rattle.script_rules.specs.Scoping.{IsScope}
+use Rattle.typing_rules.specs.BuiltForms.{not_built}
+use Rattle.typing_rules.specs.HasCasts.{HasCasts, IsRefusal}
+
+-- p is the script of this tree with its casts: the tree has no fault of size and none of names
+pub record IsTreeProgram (s : Script) (p : CastScript) : Type 0 where
+  pub right : IsRight s
+  pub scoped : Scoped
+  pub scope : IsScope s scoped
+  pub casts : HasCasts scoped p
+
+-- the tree is refused so: a fault of size is not built yet, whatever its place; then come faults of names, and then those of types
+pub data RefusesTree (s : Script) : Refusal → Type 0 where
+  too_large : {q : Refusal} → IsFirst (SizeFault s) q → RefusesTree s not_built
+  misnamed : {r : Refusal} → IsFaultless (SizeFault s) → IsFirst (ScopeFault s) r → RefusesTree s r
+  mistyped : {r : Refusal} {d : Scoped} → IsRight s → IsScope s d → IsRefusal d r → RefusesTree s r
+
+-- ---- what a phase answers
+
+-- a refusal is one of these; want of memory says nothing
+abbrev pub IsFault : (Refusal → Type 0) → LoadFault → Type 0
+IsFault Refuses (Refused r) = Refuses r
+IsFault Refuses Memory = Unit {0}
+
+-- the answer is this refusal, or there was no memory
+abbrev pub Gives : {A : Type 0} → Result A LoadFault → Refusal → Type 0
+Gives (Ok x) r = ⊥
+Gives (Err f) r = (f ≡ Refused r) ⊎ (f ≡ Memory)

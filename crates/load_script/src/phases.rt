@@ -1,0 +1,96 @@
+ghost use Rattle.std.specs.Prelude.{◌≡◌, ◌≤◌, length, chars, IfOk, IfErr};
+ghost use Rattle.std.specs.Str.{IsUtf8};
+ghost use Rattle.mono_syntax.specs.declared.refusal.Refusal.{Refusal};
+ghost use Rattle.mono_tree.specs.WellTyped.{IsWellTypedProgram};
+ghost use Rattle.py_lexer.specs.Lexes.{Lexes};
+ghost use Rattle.class_types.specs.FirstFault.{IsFaultless};
+ghost use Rattle.class_types.specs.SizeFaults.{SizeFault};
+ghost use Rattle.load_script.specs.TreePhases.{IsTreeProgram, RefusesTree, IsFault, Gives};
+ghost use Rattle.load_script.specs.Phases.{IsTokensProgram, RefusesTokens, IsTextProgram, RefusesText, IsProgramOf, IsFirstRefusal};
+
+use class_types::size_refusal;
+use mono_syntax::{CastScript, LoadFault, Place, Reason, Refusal, Script};
+use name_scope::scope;
+use parse_script::parse;
+use py_lexer::{Token, decode, lex};
+use script_casts::with_casts;
+use std::alloc::Global;
+
+/// The refusal of what isn't built yet.
+const NOT_BUILT: Refusal = Refusal {
+    place: Place { line: 1, column: 1 },
+    reason: Reason::NotBuilt,
+};
+
+/// A tree without a fault of size: its names get their types, and then it gets its casts.
+fn load_sized(alloc: Global, script: &Script) -> Result<CastScript, LoadFault>
+    requires { IsFaultless (SizeFault script.now) }
+    ensures accepted { IfOk result (IsTreeProgram script.now) }
+    ensures refused { IfErr result (IsFault (RefusesTree script.now)) }
+    ensures refuses { (r : Refusal) → RefusesTree script.now r → Gives result r }
+    ensures typed { IfOk result IsWellTypedProgram }
+{
+    match scope(alloc, script) {
+        Ok(scoped) => with_casts(alloc, scoped),
+        Err(fault) => Err(fault),
+    }
+}
+
+fn load_tree(alloc: Global, script: &Script) -> Result<CastScript, LoadFault>
+    ensures accepted { IfOk result (IsTreeProgram script.now) }
+    ensures refused { IfErr result (IsFault (RefusesTree script.now)) }
+    ensures refuses { (r : Refusal) → RefusesTree script.now r → Gives result r }
+    ensures typed { IfOk result IsWellTypedProgram }
+{
+    match size_refusal(alloc, script) {
+        Ok(None) => load_sized(alloc, script),
+        Ok(Some(_)) => Err(LoadFault::Refused(NOT_BUILT)),
+        Err(_) => Err(LoadFault::Memory),
+    }
+}
+
+fn load_tokens(alloc: Global, tokens: &[Token], text: &str) -> Result<CastScript, LoadFault>
+    requires length { length text.now ≤ 1048576 }
+    requires lexed { Lexes (chars text.now) tokens.now }
+    ensures accepted { IfOk result (IsTokensProgram text.now tokens.now) }
+    ensures refused { IfErr result (IsFault (RefusesTokens text.now tokens.now)) }
+    ensures refuses { (r : Refusal) → RefusesTokens text.now tokens.now r → Gives result r }
+    ensures typed { IfOk result IsWellTypedProgram }
+{
+    match parse(alloc, tokens, text) {
+        Ok(script) => load_tree(alloc, &script),
+        Err(fault) => Err(fault),
+    }
+}
+
+fn load_text(alloc: Global, text: &str) -> Result<CastScript, LoadFault>
+    requires { length text.now ≤ 1048576 }
+    ensures accepted { IfOk result (IsTextProgram text.now) }
+    ensures refused { IfErr result (IsFault (RefusesText text.now)) }
+    ensures refuses { (r : Refusal) → RefusesText text.now r → Gives result r }
+    ensures typed { IfOk result IsWellTypedProgram }
+{
+    match lex(alloc, text) {
+        Ok(tokens) => load_tokens(alloc, tokens.as_slice(), text),
+        Err(fault) => Err(fault),
+    }
+}
+
+/// The script of some bytes with its casts, or the first refusal: the bytes are decoded, cut into tokens, read as a tree,
+/// and then its sizes, its names and its types are looked at. Bytes without a second script, and a fault of size in one,
+/// are refused as not built yet.
+pub fn load(alloc: Global, bytes: &[u8]) -> Result<CastScript, LoadFault>
+    requires { length bytes.now ≤ 1048576 }
+    ensures accepted { IfOk result (IsProgramOf bytes.now) }
+    ensures refused { IfErr result (IsFault (IsFirstRefusal bytes.now)) }
+
+    // What the rules refuse is refused so, unless there is no memory.
+    ensures refuses { (r : Refusal) → IsFirstRefusal bytes.now r → Gives result r }
+
+    ensures typed { IfOk result IsWellTypedProgram }
+{
+    match decode(bytes) {
+        Ok(text) => load_text(alloc, text),
+        Err(refusal) => Err(LoadFault::Refused(refusal)),
+    }
+}
