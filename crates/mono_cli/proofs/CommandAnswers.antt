@@ -6,7 +6,8 @@ use Rattle.cast_machine.specs.declared.data.End.{End}
 use Rattle.cast_machine.specs.declared.data.End.TheVariants as ends
 use Rattle.mono_cli.specs.Ends.{status_of_end}
 use Rattle.mono_cli.specs.Answer.{Answer, refused, usage, unfetched}
-use Rattle.mono_cli.specs.Scripts.{IsFirstRefusal, AnswersText, too_long, IsRefusedAnswer, IsProgramAnswer}
+use Rattle.load_script.specs.Phases.{IsFirstRefusal, too_long}
+use Rattle.mono_cli.specs.Scripts.{AnswersText, IsRefusedAnswer, IsProgramAnswer}
 use Rattle.mono_cli.specs.Commands.{AnswersTold, IsAnswer}
 use Rattle.mono_cli.specs.Showing.{Shows}
 use Rattle.mono_cli.proofs.Shown.{shows_also, shows_whole}

@@ -1,6 +1,5 @@
 pub mod Lines
 pub mod Shown
-pub mod Loading
 pub mod TextAnswers
 pub mod CommandAnswers
 pub mod Running

@@ -4,7 +4,8 @@ use Rattle.mono_syntax.specs.declared.cast.CastScript.{CastScript}
 use Rattle.mono_syntax.specs.declared.refusal.LoadFault.TheVariants.{Refused, Memory}
 use Rattle.mono_syntax.specs.declared.refusal.Refusal.{Refusal}
 use Rattle.mono_cli.specs.Answer.{Answer, refused}
-use Rattle.mono_cli.specs.Scripts.{IsFirstRefusal, long, no_tree, faulty, too_long, IsProgramOf, IsRunAnswer, AnswersText}
+use Rattle.load_script.specs.Phases.{IsFirstRefusal, long, undecoded, in_text, too_long, IsProgramOf}
+use Rattle.mono_cli.specs.Scripts.{IsRunAnswer, AnswersText}
 
 pub run_answers : (text : List ℕ) (p : CastScript) → IsProgramOf text p → ((r : Refusal) → IsFirstRefusal text r → ⊥) →
     (a : Answer) → IsRunAnswer p a → AnswersText text a
@@ -23,8 +24,8 @@ refusal_answers text r i only a e = record {
 
 long_only : (text : List ℕ) → 1048576 < length text → (q : Refusal) → IsFirstRefusal text q → too_long ≡ q
 long_only text l q (long b) = refl
-long_only text l q (no_tree b n) = absurd (omega (arith, l, b))
-long_only text l q (faulty u k b v f) = absurd (omega (arith, l, b))
+long_only text l q (undecoded b f) = absurd (omega (arith, l, b))
+long_only text l q (in_text b u f) = absurd (omega (arith, l, b))
 
 pub long_answers : (text : List ℕ) → 1048576 < length text → (a : Answer) → a ≡ refused too_long → AnswersText text a
 long_answers text l a e = record {

@@ -5,4 +5,3 @@ pub mod Answer
 pub mod Showing
 pub mod Scripts
 pub mod Commands
-pub mod Faults

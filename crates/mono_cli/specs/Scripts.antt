@@ -1,35 +1,13 @@
--- What the rules of the language make of a script's bytes: its first refusal, or its program, whose run is safe.
-use Rattle.std.specs.Prelude.{◌≡◌, ◌⊎◌, ℕ, ◌<◌, ◌≤◌, true, List, Some, is_some, length}
+-- What a script's bytes come to: their first refusal, or the run of their program, which is safe.
+use Rattle.std.specs.Prelude.{◌≡◌, ◌⊎◌, ℕ, true, List, Some, is_some}
 use Rattle.mono_syntax.specs.declared.cast.CastScript.{CastScript}
-use Rattle.mono_syntax.specs.declared.refusal.Reason.TheVariants.{TooLong}
 use Rattle.mono_syntax.specs.declared.refusal.Refusal.{Refusal}
-use Rattle.mono_syntax.specs.declared.tree.Script.{Script}
-use Rattle.parse_script.specs.Script.{IsFirstScript}
-use Rattle.script_casts.specs.BuiltForms.{not_built}
-use Rattle.script_casts.specs.HasCasts.{HasCasts, IsRefusal}
+use Rattle.load_script.specs.Phases.{IsFirstRefusal, IsProgramOf}
 use Rattle.cast_machine.specs.declared.data.End.{End}
 use Rattle.cast_machine.specs.declared.data.Settings.{Settings}
 use Rattle.cast_machine.specs.Step.{Configuration, start_of, run_of, IsSeededRun}
 use Rattle.cast_machine.specs.Safety.{IsSafe}
 use Rattle.mono_cli.specs.Answer.{Answer, refused, ended}
-
--- the refusal of more bytes than a script may have
-abbrev pub too_long : Refusal
-too_long = record { place = record { line = 1; column = 1 }; reason = TooLong }
-
--- The first refusal of a script of these bytes: they are too many; or they have no tree; or the tree has a fault of names or
--- of types.
-pub data IsFirstRefusal (text : List ℕ) : Refusal → Type 0 where
-  long : 1048576 < length text → IsFirstRefusal text too_long
-  no_tree : length text ≤ 1048576 → ((s : Script) → IsFirstScript text s → ⊥) → IsFirstRefusal text not_built
-  faulty : (s : Script) (r : Refusal) → length text ≤ 1048576 → IsFirstScript text s → IsRefusal s r → IsFirstRefusal text r
-
--- p is the script of these bytes with its casts
-pub record IsProgramOf (text : List ℕ) (p : CastScript) : Type 0 where
-  pub fits : length text ≤ 1048576
-  pub script : Script
-  pub tree : IsFirstScript text script
-  pub casts : HasCasts script p
 
 -- the limits of a run and its seed where the command names none
 abbrev pub defaults : Settings

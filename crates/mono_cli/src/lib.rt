@@ -4,7 +4,7 @@
 #![tactic(auto)]
 
 mod ends;
-mod load;
+mod refusals;
 mod render;
 mod run;
 mod show;

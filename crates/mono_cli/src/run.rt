@@ -4,9 +4,10 @@ ghost use Rattle.mono_cli.specs.Scripts.{RunsTo, AnswersText, IsRunAnswer};
 ghost use Rattle.mono_cli.specs.Showing.{Shows};
 
 use crate::ends::{end_text, status_of_end};
-use crate::load::{load, show_refusal};
+use crate::refusals::show_refusal;
 use crate::show::show_run;
 use cast_calculus::{Config, Settings};
+use load_script::load;
 use mono_io::Sink;
 use mono_tree::{CastScript, LoadFault};
 use std::alloc::{AllocError, Global};

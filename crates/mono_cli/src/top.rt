@@ -4,10 +4,10 @@ ghost use Rattle.mono_io.specs.Faults.{Rose};
 ghost use Rattle.mono_cli.specs.Words.{file_of};
 ghost use Rattle.mono_cli.specs.Commands.{IsAnswer};
 ghost use Rattle.mono_cli.specs.Answer.{refused};
-ghost use Rattle.mono_cli.specs.Scripts.{IsFirstRefusal};
+ghost use Rattle.load_script.specs.Phases.{IsFirstRefusal};
 ghost use Rattle.mono_cli.specs.Showing.{Shows, ShowsAll};
 
-use crate::load::show_refusal;
+use crate::refusals::show_refusal;
 use crate::run::show_text;
 use crate::show::show_line;
 use crate::words::file_of;

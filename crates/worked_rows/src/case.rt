@@ -6,7 +6,7 @@ pub struct Case {
     pub name: String,
     pub words: Vec<String>,
     pub file: String,
-    pub script: String,
+    pub script: Vec<u8>,
     pub shelf_fails: Vec<u64>,
     pub out_fails: Vec<u64>,
     pub err_fails: Vec<u64>,
@@ -24,7 +24,7 @@ impl Case {
             name: String::from_str(alloc, name)?,
             words: Vec::new(alloc),
             file: String::from_str(alloc, "a")?,
-            script: String::new(alloc),
+            script: Vec::new(alloc),
             shelf_fails: Vec::new(alloc),
             out_fails: Vec::new(alloc),
             err_fails: Vec::new(alloc),
@@ -40,7 +40,8 @@ impl Case {
         match key {
             "word" => self.words.push(String::from_str(alloc, value)?)?,
             "file" => self.file = String::from_str(alloc, value)?,
-            "script" => push_line(&mut self.script, value)?,
+            "script" => push_script_line(&mut self.script, value)?,
+            "bytes" => self.push_bytes(value)?,
             "line feeds" => self.push_line_feeds(value)?,
             "out" => push_line(&mut self.out, value)?,
             "out part" => self.out.push_str(value)?,
@@ -57,7 +58,19 @@ impl Case {
             return Ok(());
         };
         for _i in 0..count {
-            self.script.push_str("\n")?;
+            self.script.push(b'\n')?;
+        }
+        Ok(())
+    }
+
+    /// Takes in bytes of the script, each as two hexadecimal digits.
+    fn push_bytes(&mut self, value: &str) -> Result<(), AllocError> {
+        for digits in value.split(' ') {
+            let Ok(byte) = u8::from_str_radix(digits, 16) else {
+                self.is_read = false;
+                return Ok(());
+            };
+            self.script.push(byte)?;
         }
         Ok(())
     }
@@ -81,4 +94,10 @@ impl Case {
 fn push_line(text: &mut String, line: &str) -> Result<(), AllocError> {
     text.push_str(line)?;
     text.push_str("\n")
+}
+
+fn push_script_line(script: &mut Vec<u8>, line: &str) -> Result<(), AllocError> {
+    script.extend_from_slice(line.as_bytes())?;
+    script.push(b'\n')?;
+    Ok(())
 }

@@ -13,7 +13,7 @@ use std::{fs, io};
 fn report(rt: &HostRuntime, case: Case) -> io::Result<()> {
     let alloc = rt.alloc();
     let mut files = Vec::new(alloc);
-    files.push((case.file, case.script.into_bytes()))?;
+    files.push((case.file, case.script))?;
     let mut shelf = MemShelf::new(files, case.shelf_fails);
     let mut out = MemSink::new(alloc, case.out_fails);
     let mut err = MemSink::new(alloc, case.err_fails);
@@ -47,7 +47,11 @@ fn main(rt: HostRuntime) -> io::Result<()> {
             }
             now = Some(Case::new(rt.alloc(), value)?);
         } else if let Some(case) = &mut now {
-            case.set(rt.alloc(), key, value)?;
+            if key == "read" {
+                case.script = fs::read(&rt, value)?;
+            } else {
+                case.set(rt.alloc(), key, value)?;
+            }
         }
     }
     match now {

@@ -1,0 +1,65 @@
+#!/usr/bin/env bash
+# Whether reads, writes and casts of objects cost the same in a small heap and in a large one: counts the instructions of
+# 1,000 of each behind 1,000, 4,000 and 16,000 other objects, and prints what one of them costs. The cost in the largest heap
+# is to be at most 1.25 times that in the smallest; else the status is 1.
+#
+#     bench/heap_growth.sh
+#
+# It wants valgrind, builds the program first where ./mono would, and takes about a minute. It is no part of `rt ci`.
+#
+# An object is found by halving among the addresses of all, so a little growth is to be expected: two steps of the search for
+# each fourfold heap.
+set -euo pipefail
+
+root=$(cd -- "$(dirname -- "${BASH_SOURCE[0]}")/.." && pwd -P)
+work=$(mktemp -d)
+trap 'rm -rf -- "$work"' EXIT
+times=1000
+most=125    # hundredths
+
+fail() {
+    echo "heap_growth: $1" >&2
+    exit 1
+}
+
+# A script with so many objects, half of them made before `p` and half behind it, and then this line so many times.
+script() {
+    awk -v n="$1" -v line="$2" -v times="$3" 'BEGIN {
+        print "class P:\n    x: Dyn\n\nclass Q:\n    x: int\n"
+        for (i = 0; i < n / 2; i++) print "a = P(0)"
+        print "p = P(1)"
+        for (i = 0; i < n / 2; i++) print "a = P(0)"
+        for (i = 0; i < times; i++) print line
+    }' >"$work/script.py"
+}
+
+# The instructions of the script.
+count() {
+    valgrind --tool=callgrind --callgrind-out-file="$work/counts" --log-file="$work/log" \
+        "$root/crates/mono/out/mono" step "$work/script.py" >"$work/out" 2>"$work/err" ||
+        fail "a script didn't end well: $(head -c 300 "$work/err")"
+    awk '/^(summary|totals):/ { n = $2 } END { print n }' "$work/counts"
+}
+
+# What the line costs once, behind so many objects.
+cost() {
+    local with without
+    script "$1" "$2" "$times"
+    with=$(count)
+    script "$1" "$2" 0
+    without=$(count)
+    echo $(((with - without) / times))
+}
+
+command -v valgrind >/dev/null || fail "there is no valgrind"
+"$root/mono" step /dev/null || fail "the program wasn't built"
+
+status=0
+for line in 'y = p.x' 'p.x = 2' 'q = cast(Q, p)'; do
+    small=$(cost 1000 "$line")
+    middle=$(cost 4000 "$line")
+    large=$(cost 16000 "$line")
+    printf '%-16s %8d %8d %8d instructions behind 1000, 4000 and 16000 objects\n' "$line" "$small" "$middle" "$large"
+    [ $((100 * large)) -le $((most * small)) ] || status=1
+done
+[ "$status" -eq 0 ] || fail "a cost grows by more than a quarter"

@@ -1,0 +1,4 @@
+x: Dyn = 1
+print(x)
+y: str = x
+print(y)

@@ -1,0 +1,3 @@
+x: Dyn = 1
+y: int = x
+print(y + 2)

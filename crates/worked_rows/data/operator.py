@@ -1,0 +1,3 @@
+a: Dyn = 1
+b: Dyn = None
+print(a + b)

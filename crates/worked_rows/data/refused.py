@@ -1,0 +1,2 @@
+count: int = "three"
+print(count + 1)

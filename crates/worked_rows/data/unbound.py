@@ -1,0 +1,3 @@
+print(1)
+print(total)
+total: int = 2
