@@ -1,6 +1,6 @@
 -- A script without a fault of names or size has classes whose types are types.
-use Rattle.std.proofs.Common.{◌≡◌, ◌⊎◌, inl, inr, ℕ, zero, suc, ◌+◌, ◌<◌, ◌≤◌, List, [], ◌∷◌, ◌++◌, length, Bool, true, false, ◌||◌, Option, Some, None, map, flat_map, bytes_eq, refl, sym, ◌∙◌, ap, subst, arith, append_assoc, if◌then◌else◌}
-use Rattle.std.specs.Prelude.{Contains, IsTrue}
+use Rattle.std.proofs.Common.{◌≡◌, inl, ℕ, zero, suc, ◌+◌, ◌<◌, ◌≤◌, List, [], ◌∷◌, ◌++◌, map, flat_map, refl, sym, ◌∙◌, ap, subst, arith, append_assoc}
+use Rattle.std.specs.Prelude.{Contains}
 use Rattle.std.proofs.lemmas.List.Elements.{Contains-append_left, Contains-append_right}
 use Rattle.mono_syntax.specs.declared.refusal.Reason.TheVariants.{Twice, TooManyParameters}
 use Rattle.mono_syntax.specs.declared.tree.ClassDef.{ClassDef}
@@ -12,16 +12,15 @@ use Rattle.mono_syntax.specs.Ann.{Ann, ann, Form, class, fun, Anns, no_anns, mor
 use Rattle.mono_syntax.specs.Ann as form
 use Rattle.script_rules.specs.Definitions.{classes_of}
 use Rattle.script_rules.specs.Scoping.{class_list}
-use Rattle.class_types.specs.FirstFault.{IsFaultless}
-use Rattle.class_types.specs.SizeFaults.{SizeFault, wide_callable}
+use Rattle.class_types.specs.SizeFaults.{wide_callable}
 use Rattle.class_types.specs.SourceParts.{Counted, callables, callables_all, count_of, Part, annotation, field_parts, item_parts, parts_of}
 use Rattle.name_scope.specs.declared.occurrence.Occurrence.{Occurrence}
 use Rattle.name_scope.specs.declared.occurrence.Role.TheVariants as role
-use Rattle.name_scope.specs.NameFaults.{BodyFault, field_twice, NameFault}
+use Rattle.name_scope.specs.NameFaults.{BodyFault, field_twice}
 use Rattle.name_scope.specs.Occurrences.{at, in_ann, in_field, in_class, definitions, body_of, in_main, bodies}
 use Rattle.name_scope.specs.Rules.{is_field, Stands}
 use Rattle.name_scope.specs.ScopeFaults.{IsRight}
-use Rattle.typing_rules.specs.ClassLimits.{ann_count, IsNarrow, AreNarrow, AreDifferent, field_names, AreFit}
+use Rattle.typing_rules.specs.ClassLimits.{ann_count, IsNarrow, AreNarrow, AreDifferent, AreFit}
 
 head_stands : {A : Type 0} (x : A) (xs : List A) → Contains (x ∷ xs) x
 head_stands x xs = (0, omega arith, refl)

@@ -1,5 +1,5 @@
 -- What a tree without a fault of size comes to.
-use Rattle.std.proofs.Common.{◌≡◌, ◌⊎◌, inl, inr, [], Option, Some, None, Result, Ok, Err, IfOk, IfErr, refl, sym, ◌∙◌, subst, ap}
+use Rattle.std.proofs.Common.{◌≡◌, inl, inr, [], Option, Some, None, Result, Ok, Err, IfOk, IfErr, refl, sym, ◌∙◌, subst, ap}
 use Rattle.std.specs.Prelude.{IsOkUnless, MatchOption}
 use Rattle.mono_list.proofs.Cases.{none_some}
 use Rattle.mono_syntax.specs.declared.cast.CastScript.{CastScript}
@@ -22,7 +22,7 @@ use Rattle.typing_rules.specs.ClassLimits.{AreFit}
 use Rattle.typing_rules.specs.Members.{Names}
 use Rattle.typing_rules.specs.TypingFaults.{BlockFault}
 use Rattle.typing_rules.proofs.ClassTypeLaws.{class_types}
-use Rattle.load_script.specs.TreePhases.{IsTreeProgram, RefusesTree, too_large, misnamed, mistyped, IsFault, Gives}
+use Rattle.load_script.specs.TreePhases.{IsTreeProgram, RefusesTree, too_large, misnamed, mistyped, HasBuiltForms, IsFault, Gives}
 use Rattle.load_script.proofs.Fitness.{fit}
 
 -- ---- what a script is refused for by its types hangs on its tree alone
@@ -32,12 +32,6 @@ names_move d e same names h = record {
   classes = h.classes ∙ ap class_list same;
   values = subst (λ (s : Script). AreNames (class_list s) (firsts (all_targets [] (main_block s))) names.values) same h.values;
 }
-
-refusal_moves : (d e : Scoped) → d.script ≡ e.script → (r : Refusal) → IsRefusal d r → IsRefusal e r
-refusal_moves d e same r (unbuilt names main n) = unbuilt names (names_move d e same names main) (λ b. n (subst (λ (s : Script). AreBuilt names s.items) (sym same) b))
-refusal_moves d e same r (casts.mistyped names types q main b f) =
-    casts.mistyped names types q (names_move d e same names main) (subst (λ (s : Script). AreBuilt names s.items) same b)
-    (subst (λ (s : Script). BlockFault types names (main_block s) q) same f)
 
 -- ---- behind the names
 
@@ -53,20 +47,25 @@ pub sized_program : (s : Script) (d : Scoped) → IsRight s → IsScope s d → 
 sized_program s d right sc (Ok p) h = record { right = right; scoped = d; scope = sc; casts = h }
 sized_program s d right sc (Err f) h = tt
 
-pub sized_fault : (s : Script) (d : Scoped) → IsRight s → IsScope s d → (r : Result CastScript LoadFault) → IfErr r (casts.IsFault d) → IfErr r (IsFault (RefusesTree s))
-sized_fault s d right sc (Ok p) h = tt
-sized_fault s d right sc (Err (Refused r)) h = mistyped right sc h
-sized_fault s d right sc (Err Memory) h = tt
+pub sized_fault : (s : Script) (d : Scoped) → HasBuiltForms s → IsRight s → IsScope s d → (r : Result CastScript LoadFault) → IfErr r (casts.IsFault d) → IfErr r (IsFault (RefusesTree s))
+sized_fault s d built right sc (Ok p) h = tt
+sized_fault s d built right sc (Err (Refused r)) (unbuilt names main n) = absurd (n (subst (λ (x : Script). AreBuilt names x.items) (sym sc.script) (built d names right sc main)))
+sized_fault s d built right sc (Err (Refused r)) (casts.mistyped names types q main b f) =
+    mistyped right sc main (subst (λ (x : Script). BlockFault types names (main_block x) q) sc.script f)
+sized_fault s d built right sc (Err Memory) h = tt
 
 gives : (r : Result CastScript LoadFault) (q : Refusal) → Refuses r q → Gives r q
 gives (Ok p) q h = h
 gives (Err f) q h = h
 
-pub sized_refuses : (s : Script) (d : Scoped) → IsRight s → IsScope s d → (r : Result CastScript LoadFault) → ((q : Refusal) → IsRefusal d q → Refuses r q)
+pub sized_refuses : (s : Script) (d : Scoped) → HasBuiltForms s → IsRight s → IsScope s d → (r : Result CastScript LoadFault) → ((q : Refusal) → IsRefusal d q → Refuses r q)
     → (q : Refusal) → RefusesTree s q → Gives r q
-sized_refuses s d right sc r h q (too_large f) = absurd (right.sizes _ _ f.stands)
-sized_refuses s d right sc r h q (misnamed z f) = absurd (right.names _ _ f.stands)
-sized_refuses s d right sc r h q (mistyped {d = e} k se f) = gives r q (h q (refusal_moves e d (se.script ∙ sym sc.script) q f))
+sized_refuses s d built right sc r h q (too_large f) = absurd (right.sizes _ _ f.stands)
+sized_refuses s d built right sc r h q (misnamed z f) = absurd (right.names _ _ f.stands)
+sized_refuses s d built right sc r h q (mistyped {d = e} {names = names} {types = types} k se main f) =
+    let here = names_move e d (se.script ∙ sym sc.script) names main in
+    let forms = subst (λ (x : Script). AreBuilt names x.items) (sym sc.script) (built d names right sc here) in
+    gives r q (h q (casts.mistyped names types q here forms (subst (λ (x : Script). BlockFault types names (main_block x) q) (sym sc.script) f)))
 
 -- ---- where names are wrong
 
@@ -85,7 +84,7 @@ pub named_refuses : (s : Script) → IsFaultless (SizeFault s) → (f : LoadFaul
     → ((q : Refusal) → IsScopeRefusal s q → scope.Refuses (no_scope f) q) → (q : Refusal) → RefusesTree s q → Gives (no_program f) q
 named_refuses s sizes f accepts refuses q (too_large g) = absurd (sizes _ _ g.stands)
 named_refuses s sizes f accepts refuses q (misnamed z g) = refuses q (scope.misnamed g)
-named_refuses s sizes f accepts refuses q (mistyped k se g) = inr (accepts k)
+named_refuses s sizes f accepts refuses q (mistyped k se main g) = inr (accepts k)
 
 -- ---- where something is too large
 
@@ -96,4 +95,4 @@ large_found s (Some q) r e h = too_large h
 pub large_refuses : (s : Script) (r : Refusal) → IsFirst (SizeFault s) r → (q : Refusal) → RefusesTree s q → Gives (no_program (Refused not_built)) q
 large_refuses s r f q (too_large g) = inl refl
 large_refuses s r f q (misnamed z g) = absurd (z _ _ f.stands)
-large_refuses s r f q (mistyped k se g) = absurd (k.sizes _ _ f.stands)
+large_refuses s r f q (mistyped k se main g) = absurd (k.sizes _ _ f.stands)

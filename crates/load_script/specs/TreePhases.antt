@@ -1,6 +1,6 @@
 -- From the tree of a script to the script with its casts: its sizes are looked at, its names get their types, and it gets
 -- its casts. The first phase that refuses ends it.
-use Rattle.std.specs.Prelude.{◌≡◌, ◌⊎◌, Result, Ok, Err}
+use Rattle.std.specs.Prelude.{◌≡◌, ◌⊎◌, List, Result, Ok, Err}
 use Rattle.mono_syntax.specs.declared.cast.CastScript.{CastScript}
 use Rattle.mono_syntax.specs.declared.refusal.LoadFault.{LoadFault}
 use Rattle.mono_syntax.specs.declared.refusal.LoadFault.TheVariants.{Refused, Memory}
@@ -10,9 +10,12 @@ use Rattle.mono_syntax.specs.declared.tree.Script.{Script}
 use Rattle.class_types.specs.FirstFault.{IsFirst, IsFaultless}
 use Rattle.class_types.specs.SizeFaults.{SizeFault}
 use Rattle.name_scope.specs.ScopeFaults.{ScopeFault, IsRight}
-use Rattle.script_rules.specs.Scoping.{IsScope}
-use Rattle.typing_rules.specs.BuiltForms.{not_built}
-use Rattle.typing_rules.specs.HasCasts.{HasCasts, IsRefusal}
+use Rattle.mono_syntax.specs.Ty.{Ty}
+use Rattle.script_rules.specs.Scoping.{IsScope, main_block}
+use Rattle.typing_rules.specs.BuiltForms.{AreBuilt, not_built}
+use Rattle.typing_rules.specs.HasCasts.{HasCasts, IsMainNames}
+use Rattle.typing_rules.specs.Members.{Names}
+use Rattle.typing_rules.specs.TypingFaults.{BlockFault}
 
 -- p is the script of this tree with its casts: the tree has no fault of size and none of names
 pub record IsTreeProgram (s : Script) (p : CastScript) : Type 0 where
@@ -21,11 +24,17 @@ pub record IsTreeProgram (s : Script) (p : CastScript) : Type 0 where
   pub scope : IsScope s scoped
   pub casts : HasCasts scoped p
 
--- the tree is refused so: a fault of size is not built yet, whatever its place; then come faults of names, and then those of types
+-- the tree is refused so: a fault of size is not built yet, whatever its place; then come faults of names, and then those of
+-- types: two types have no meet where one is used at the other, or a field isn't there, or arguments are too many or too few
 pub data RefusesTree (s : Script) : Refusal → Type 0 where
   too_large : {q : Refusal} → IsFirst (SizeFault s) q → RefusesTree s not_built
   misnamed : {r : Refusal} → IsFaultless (SizeFault s) → IsFirst (ScopeFault s) r → RefusesTree s r
-  mistyped : {r : Refusal} {d : Scoped} → IsRight s → IsScope s d → IsRefusal d r → RefusesTree s r
+  mistyped : {r : Refusal} {d : Scoped} {names : Names} {types : List Ty} → IsRight s → IsScope s d → IsMainNames d names
+      → BlockFault types names (main_block s) r → RefusesTree s r
+
+-- the tree has only forms that typing is built for, once its names are right
+abbrev pub HasBuiltForms : Script → Type 0
+HasBuiltForms s = (d : Scoped) (names : Names) → IsRight s → IsScope s d → IsMainNames d names → AreBuilt names s.items
 
 -- ---- what a phase answers
 

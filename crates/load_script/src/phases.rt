@@ -5,7 +5,7 @@ ghost use Rattle.mono_tree.specs.WellTyped.{IsWellTypedProgram};
 ghost use Rattle.py_lexer.specs.Lexes.{Lexes};
 ghost use Rattle.class_types.specs.FirstFault.{IsFaultless};
 ghost use Rattle.class_types.specs.SizeFaults.{SizeFault};
-ghost use Rattle.load_script.specs.TreePhases.{IsTreeProgram, RefusesTree, IsFault, Gives};
+ghost use Rattle.load_script.specs.TreePhases.{IsTreeProgram, RefusesTree, HasBuiltForms, IsFault, Gives};
 ghost use Rattle.load_script.specs.Phases.{IsTokensProgram, RefusesTokens, IsTextProgram, RefusesText, IsProgramOf, IsFirstRefusal};
 
 use class_types::size_refusal;
@@ -24,7 +24,8 @@ const NOT_BUILT: Refusal = Refusal {
 
 /// A tree without a fault of size: its names get their types, and then it gets its casts.
 fn load_sized(alloc: Global, script: &Script) -> Result<CastScript, LoadFault>
-    requires { IsFaultless (SizeFault script.now) }
+    requires sizes { IsFaultless (SizeFault script.now) }
+    requires built { HasBuiltForms script.now }
     ensures accepted { IfOk result (IsTreeProgram script.now) }
     ensures refused { IfErr result (IsFault (RefusesTree script.now)) }
     ensures refuses { (r : Refusal) → RefusesTree script.now r → Gives result r }
@@ -37,6 +38,7 @@ fn load_sized(alloc: Global, script: &Script) -> Result<CastScript, LoadFault>
 }
 
 fn load_tree(alloc: Global, script: &Script) -> Result<CastScript, LoadFault>
+    requires { HasBuiltForms script.now }
     ensures accepted { IfOk result (IsTreeProgram script.now) }
     ensures refused { IfErr result (IsFault (RefusesTree script.now)) }
     ensures refuses { (r : Refusal) → RefusesTree script.now r → Gives result r }
