@@ -1,6 +1,6 @@
 #!/usr/bin/env bash
 # Whether reads, writes and casts of objects cost the same in a small heap and in a large one: counts the instructions of
-# 1,000 of each behind 1,000, 4,000 and 16,000 other objects, and prints what one of them costs. The cost in the largest heap
+# 500 of each behind 1,200, 4,800 and 19,200 other objects, and prints what one of them costs, its line's reading with it. The cost in the largest heap
 # is to be at most 1.25 times that in the smallest; else the status is 1.
 #
 #     bench/heap_growth.sh
@@ -8,13 +8,13 @@
 # It wants valgrind, builds the program first where ./mono would, and takes about a minute. It is no part of `rt ci`.
 #
 # An object is found by halving among the addresses of all, so a little growth is to be expected: two steps of the search for
-# each fourfold heap.
+# each fourfold heap. The numbers are such that no list of the script's lines has to grow among the lines that are counted.
 set -euo pipefail
 
 root=$(cd -- "$(dirname -- "${BASH_SOURCE[0]}")/.." && pwd -P)
 work=$(mktemp -d)
 trap 'rm -rf -- "$work"' EXIT
-times=1000
+times=500
 most=125    # hundredths
 
 fail() {
@@ -56,10 +56,10 @@ command -v valgrind >/dev/null || fail "there is no valgrind"
 
 status=0
 for line in 'y = p.x' 'p.x = 2' 'q = cast(Q, p)'; do
-    small=$(cost 1000 "$line")
-    middle=$(cost 4000 "$line")
-    large=$(cost 16000 "$line")
-    printf '%-16s %8d %8d %8d instructions behind 1000, 4000 and 16000 objects\n' "$line" "$small" "$middle" "$large"
+    small=$(cost 1200 "$line")
+    middle=$(cost 4800 "$line")
+    large=$(cost 19200 "$line")
+    printf '%-16s %8d %8d %8d instructions behind 1200, 4800 and 19200 objects\n' "$line" "$small" "$middle" "$large"
     [ $((100 * large)) -le $((most * small)) ] || status=1
 done
 [ "$status" -eq 0 ] || fail "a cost grows by more than a quarter"
