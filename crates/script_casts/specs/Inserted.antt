@@ -130,10 +130,14 @@ called ks _ p xs = Err not_built
 
 -- ---- expressions
 
+-- a name of the block
+abbrev pub named : Known → Word → Table → Result Cast Refusal
+named ks w b = read_name ks.dynamic (type_of_name ks.values w.text) w b
+
 abbrev mutual
   -- an expression behind these sites
   pub inserted : Known → Expr → Table → Result Cast Refusal
-  inserted ks (expr.local w) b = read_name ks.dynamic (type_of_name ks.values w.text) w b
+  inserted ks (expr.local w) b = named ks w b
   inserted ks (expr.number p n) b = plain (cast.number n) p int b
   inserted ks (expr.text p t) b = plain (cast.text t) p str b
   inserted ks (expr.truth p v) b = plain (cast.truth v) p bool b

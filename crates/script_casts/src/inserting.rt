@@ -1,6 +1,6 @@
 ghost use Rattle.std.specs.Prelude.{[]};
 ghost use Rattle.mono_syntax.specs.ExprView.{exprs};
-ghost use Rattle.script_casts.specs.Inserted.{inserted, inserted_all};
+ghost use Rattle.script_casts.specs.Inserted.{named, inserted, inserted_all};
 ghost use Rattle.script_casts.specs.Refusals.{Gives};
 
 use crate::annotations::{type_of, written};
@@ -8,9 +8,17 @@ use crate::known::Known;
 use crate::objects::{Parts, called};
 use crate::sites::{Cast, NOT_BUILT, Table, of_base_type};
 use crate::uses::{cast_to, read_member, read_name, summed};
-use mono_syntax::{CastExprKind, Expr, ExprKind, LoadFault, Op, TyKind};
+use mono_syntax::{CastExprKind, Expr, ExprKind, LoadFault, Op, TyKind, Word};
 use sqlite_items::Items;
 use std::alloc::Global;
+
+/// A name of the block.
+fn named(alloc: Global, known: &Known, word: &Word, table: Table) -> Result<Cast, LoadFault>
+    ensures { Gives result (named known.now word.now table) }
+{
+    let ty = type_of(known.values.as_slice(), &word.text);
+    read_name(alloc, known.dynamic, ty, word, table)
+}
 
 /// An expression with its casts, whose sites go behind these.
 #[cycle(inserted)]
@@ -18,10 +26,7 @@ pub fn inserted(alloc: Global, known: &Known, e: &Expr, table: Table) -> Result<
     ensures { Gives result (inserted known.now e.now table) }
 {
     match &e.kind {
-        ExprKind::Local(word) => {
-            let ty = type_of(known.values.as_slice(), &word.text);
-            read_name(alloc, known.dynamic, ty, word, table)
-        }
+        ExprKind::Local(word) => named(alloc, known, word, table),
         ExprKind::Int(place, number) => {
             let kind = CastExprKind::Int(*number);
             of_base_type(alloc, kind, *place, TyKind::Int, table)
@@ -38,15 +43,7 @@ pub fn inserted(alloc: Global, known: &Known, e: &Expr, table: Table) -> Result<
         ExprKind::Binary(Op::Add, place, a, b) => {
             let first = inserted(alloc, known, a.get(), table)?;
             let second = inserted(alloc, known, b.get(), first.table)?;
-            let dynamic = known.dynamic;
-            summed(
-                alloc,
-                dynamic,
-                *place,
-                first.part,
-                second.part,
-                second.table,
-            )
+            summed(alloc, known.dynamic, *place, first.part, second)
         }
         ExprKind::Read(a, word) => {
             let object = inserted(alloc, known, a.get(), table)?;
@@ -59,13 +56,7 @@ pub fn inserted(alloc: Global, known: &Known, e: &Expr, table: Table) -> Result<
         }
         ExprKind::Call(place, callee, arguments) => {
             let arguments = inserted_all(alloc, known, arguments.as_slice(), table)?;
-            called(
-                alloc,
-                known.classes.as_slice(),
-                callee.get(),
-                *place,
-                arguments,
-            )
+            called(alloc, known, callee.get(), *place, arguments)
         }
         _ => Err(LoadFault::Refused(NOT_BUILT)),
     }

@@ -3,7 +3,7 @@ ghost use Rattle.std.specs.Option.{option_copied};
 ghost use Rattle.script_casts.specs.Inserted.{with_argument, used_from, new_object, object_of, called};
 ghost use Rattle.script_casts.specs.Refusals.{Gives};
 
-use crate::known::{KnownClass, known_class};
+use crate::known::{Known, KnownClass, known_class};
 use crate::sites::{Cast, NOT_BUILT, Part, Table, plain, shared};
 use crate::uses::used;
 use mono_list::Shared;
@@ -106,16 +106,16 @@ fn object_of(
 /// A call of a class, with its arguments before their uses.
 pub fn called(
     alloc: Global,
-    classes: &[KnownClass],
+    known: &Known,
     callee: &Expr,
     bracket: Place,
     arguments: Parts,
 ) -> Result<Cast, LoadFault>
-    ensures { Gives result (called classes.now callee.now bracket arguments) }
+    ensures { Gives result (called known.now.classes callee.now bracket arguments) }
 {
     match &callee.kind {
         ExprKind::Local(word) => {
-            let class = known_class(classes, &word.text);
+            let class = known_class(known.classes.as_slice(), &word.text);
             object_of(alloc, class, bracket, word.place, arguments)
         }
         _ => Err(LoadFault::Refused(NOT_BUILT)),

@@ -83,7 +83,7 @@ fn position_in(types: &[Shared<Ty>], ty: &Ty) -> Option<usize>
 fn at_position(at: usize, types: Items<Shared<Ty>>) -> Result<Placed, LoadFault>
     ensures { Gives result (Ok (record { at = record { 0 = at }; types = types })) }
 {
-    // There are never as many: a script of 2^20 bytes has no more types than bytes.
+    // There are never as many: each type came with a name, a class, a function or a site of a script of 2^20 bytes.
     let Ok(number) = u32::try_from(at) else {
         return Err(LoadFault::Memory);
     };

@@ -138,20 +138,21 @@ fn dyn_sum(
     of_base_type(alloc, kind, a.place, TyKind::Dyn, table)
 }
 
+/// A sum of two parts, whose sites go behind those of the second.
 pub fn summed(
     alloc: Global,
     dynamic: TyAt,
     place: Place,
     a: Part,
-    b: Part,
-    table: Table,
+    b: Cast,
 ) -> Result<Cast, LoadFault>
-    ensures { Gives result (summed dynamic place a b table) }
+    ensures { Gives result (summed dynamic place a b.part b.table) }
 {
-    if is_dyn(a.ty.get()) && is_dyn(b.ty.get()) {
-        dyn_sum(alloc, dynamic, place, a, b, table)
+    let Cast { part, table } = b;
+    if is_dyn(a.ty.get()) && is_dyn(part.ty.get()) {
+        dyn_sum(alloc, dynamic, place, a, part, table)
     } else {
-        int_sum(alloc, dynamic, place, a, b, table)
+        int_sum(alloc, dynamic, place, a, part, table)
     }
 }
 
