@@ -12,6 +12,7 @@ use Rattle.class_types.specs.FirstFault.{IsFirst, IsFaultless}
 use Rattle.class_types.specs.SizeFaults.{SizeFault}
 use Rattle.name_scope.specs.ScopeFaults as scope
 use Rattle.name_scope.specs.ScopeFaults.{ScopeFault, IsRight, IsScopeRefusal}
+use Rattle.mono_syntax.specs.StmtView.{block}
 use Rattle.script_casts.specs.Refusals.{Refuses}
 use Rattle.script_rules.specs.BlockNames.{firsts, all_targets}
 use Rattle.script_rules.specs.Scoping.{IsScope, class_list, main_block}
@@ -20,7 +21,7 @@ use Rattle.typing_rules.specs.HasCasts as casts
 use Rattle.typing_rules.specs.HasCasts.{AreNames, HasCasts, IsMainNames, IsRefusal, unbuilt, HaveClassTypes}
 use Rattle.typing_rules.specs.ClassLimits.{AreFit}
 use Rattle.typing_rules.specs.Members.{Names}
-use Rattle.typing_rules.specs.TypingFaults.{BlockFault}
+use Rattle.typing_rules.specs.LineFaults.{BlockFault}
 use Rattle.typing_rules.proofs.ClassTypeLaws.{class_types}
 use Rattle.load_script.specs.TreePhases.{IsTreeProgram, RefusesTree, too_large, misnamed, mistyped, HasBuiltForms, IsFault, Gives}
 use Rattle.load_script.proofs.Fitness.{fit}
@@ -51,7 +52,7 @@ pub sized_fault : (s : Script) (d : Scoped) → HasBuiltForms s → IsRight s �
 sized_fault s d built right sc (Ok p) h = tt
 sized_fault s d built right sc (Err (Refused r)) (unbuilt names main n) = absurd (n (subst (λ (x : Script). AreBuilt names x.items) (sym sc.script) (built d names right sc main)))
 sized_fault s d built right sc (Err (Refused r)) (casts.mistyped names types q main b f) =
-    mistyped right sc main (subst (λ (x : Script). BlockFault types names (main_block x) q) sc.script f)
+    mistyped right sc main (subst (λ (x : Script). BlockFault types names (block (main_block x)) q) sc.script f)
 sized_fault s d built right sc (Err Memory) h = tt
 
 gives : (r : Result CastScript LoadFault) (q : Refusal) → Refuses r q → Gives r q
@@ -65,7 +66,7 @@ sized_refuses s d built right sc r h q (misnamed z f) = absurd (right.names _ _ 
 sized_refuses s d built right sc r h q (mistyped {d = e} {names = names} {types = types} k se main f) =
     let here = names_move e d (se.script ∙ sym sc.script) names main in
     let forms = subst (λ (x : Script). AreBuilt names x.items) (sym sc.script) (built d names right sc here) in
-    gives r q (h q (casts.mistyped names types q here forms (subst (λ (x : Script). BlockFault types names (main_block x) q) (sym sc.script) f)))
+    gives r q (h q (casts.mistyped names types q here forms (subst (λ (x : Script). BlockFault types names (block (main_block x)) q) (sym sc.script) f)))
 
 -- ---- where names are wrong
 

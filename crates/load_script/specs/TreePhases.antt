@@ -10,12 +10,13 @@ use Rattle.mono_syntax.specs.declared.tree.Script.{Script}
 use Rattle.class_types.specs.FirstFault.{IsFirst, IsFaultless}
 use Rattle.class_types.specs.SizeFaults.{SizeFault}
 use Rattle.name_scope.specs.ScopeFaults.{ScopeFault, IsRight}
+use Rattle.mono_syntax.specs.StmtView.{block}
 use Rattle.mono_syntax.specs.Ty.{Ty}
 use Rattle.script_rules.specs.Scoping.{IsScope, main_block}
 use Rattle.typing_rules.specs.BuiltForms.{AreBuilt, not_built}
 use Rattle.typing_rules.specs.HasCasts.{HasCasts, IsMainNames}
 use Rattle.typing_rules.specs.Members.{Names}
-use Rattle.typing_rules.specs.TypingFaults.{BlockFault}
+use Rattle.typing_rules.specs.LineFaults.{BlockFault}
 
 -- p is the script of this tree with its casts: the tree has no fault of size and none of names
 pub record IsTreeProgram (s : Script) (p : CastScript) : Type 0 where
@@ -30,7 +31,7 @@ pub data RefusesTree (s : Script) : Refusal → Type 0 where
   too_large : {q : Refusal} → IsFirst (SizeFault s) q → RefusesTree s not_built
   misnamed : {r : Refusal} → IsFaultless (SizeFault s) → IsFirst (ScopeFault s) r → RefusesTree s r
   mistyped : {r : Refusal} {d : Scoped} {names : Names} {types : List Ty} → IsRight s → IsScope s d → IsMainNames d names
-      → BlockFault types names (main_block s) r → RefusesTree s r
+      → BlockFault types names (block (main_block s)) r → RefusesTree s r
 
 -- the tree has only forms that typing is built for, once its names are right
 abbrev pub HasBuiltForms : Script → Type 0

@@ -1,0 +1,14 @@
+pub mod Goes
+pub mod Maxima
+pub mod TypeSound
+pub mod TypeReach
+pub mod Levels
+pub mod Sound
+pub mod Steps
+pub mod Reach
+pub mod TypeRuns
+pub mod ExprRuns
+pub mod Readings
+pub mod Runs
+pub mod Exact
+pub mod Loops
