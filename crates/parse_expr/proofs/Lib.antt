@@ -4,3 +4,6 @@ pub mod TypeSound
 pub mod TypeReach
 pub mod Levels
 pub mod Sound
+pub mod Steps
+pub mod Reach
+pub mod Readings

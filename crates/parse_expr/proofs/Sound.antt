@@ -15,7 +15,7 @@ use Rattle.parse_expr.specs.declared.machine.Link.{Link}
 use Rattle.parse_expr.specs.declared.machine.Frame.{Frame}
 use Rattle.parse_expr.specs.declared.machine.Frame.TheVariants as frame
 use Rattle.parse_expr.specs.Grammar as g
-use Rattle.parse_expr.specs.Types.{DerivesType, word}
+use Rattle.parse_expr.specs.Types.{DerivesType}
 use Rattle.parse_expr.specs.Grammar.{Form, Derives, DerivesArgs, IsExpr}
 use Rattle.parse_expr.specs.Stretches.{Begins}
 use Rattle.parse_expr.specs.Reading.{link_left, link_whole, hole_of, hole, join, weigh}

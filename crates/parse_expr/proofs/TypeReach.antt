@@ -1,6 +1,6 @@
 -- What is a type is read, and to the state that has it.
-use Rattle.std.proofs.Common.{ℕ, suc, ◌+◌, ◌<◌, ◌≤◌, ◌≡◌, max, List, [], ◌∷◌, ◌++◌, length, Option, Some, None, nat_lt, arith, refl, ap, sym, ◌∙◌, subst, append_assoc}
-use Rattle.std.proofs.Math.Nat.{zero-max, max-zero}
+use Rattle.std.proofs.Common.{ℕ, suc, ◌+◌, ◌≤◌, ◌≡◌, max, List, [], ◌∷◌, ◌++◌, length, Some, nat_lt, arith, refl, ap, sym, ◌∙◌, subst, append_assoc}
+use Rattle.std.proofs.Math.Nat.{zero-max}
 use Rattle.std.proofs.lemmas.Bool.{lt-ltb}
 use Rattle.mono_syntax.specs.declared.leaf.Place.{Place}
 use Rattle.mono_syntax.specs.Ann as tree
@@ -22,7 +22,7 @@ use Rattle.parse_expr.specs.TypeReading.{type_if, type_mark, type_begin, type_fi
 use Rattle.parse_expr.specs.Goes.{Goes, stay, go}
 use Rattle.parse_expr.proofs.Goes.{then, goes_cons, none_some}
 use Rattle.parse_expr.proofs.Maxima.{max_left, max_right, max_assoc}
-use Rattle.parse_expr.proofs.TypeSound.{head, middle, type_heavy}
+use Rattle.parse_expr.proofs.TypeSound.{type_heavy}
 
 one_step : (r : ℕ) (m n : TypeMode) (t : Spelled) → type_step r m t ≡ Some n → Goes (type_step r) m (t ∷ []) n
 one_step r m n t e = go m n n t [] e (stay n)

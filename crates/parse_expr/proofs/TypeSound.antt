@@ -1,6 +1,6 @@
 -- What is read as a type is one, and each state that is reached can be completed.
-use Rattle.std.proofs.Common.{ℕ, zero, suc, ◌+◌, ◌<◌, ◌≤◌, ◌≡◌, max, Bool, true, false, List, [], ◌∷◌, ◌++◌, length, Option, Some, None, nat_lt, arith, refl, ap, sym, ◌∙◌, subst, append_assoc}
-use Rattle.std.proofs.Math.Nat.{zero-max, max-zero}
+use Rattle.std.proofs.Common.{ℕ, suc, ◌+◌, ◌<◌, ◌≤◌, ◌≡◌, max, Bool, true, false, List, [], ◌∷◌, ◌++◌, length, Some, nat_lt, arith, refl, ap, sym, ◌∙◌, subst, append_assoc}
+use Rattle.std.proofs.Math.Nat.{zero-max}
 use Rattle.std.proofs.lemmas.List.{append-nil}
 use Rattle.std.proofs.lemmas.Bool.{ltb-true}
 use Rattle.mono_syntax.specs.declared.leaf.Place.{Place}
@@ -20,9 +20,9 @@ use Rattle.parse_expr.specs.declared.machine.TypeMode.TheVariants as mode
 use Rattle.parse_expr.specs.declared.machine.Weighed.{Weighed}
 use Rattle.parse_expr.specs.Types as g
 use Rattle.parse_expr.specs.Types.{DerivesType, DerivesTypes, DerivesTypeRow, word}
-use Rattle.parse_expr.specs.TypeReading.{type_if, type_leaf, type_mark, type_begin, type_outer, type_inner, type_first_mark, type_first, type_between, type_comma, type_close, type_behind, type_step, type_whole, type_finish}
+use Rattle.parse_expr.specs.TypeReading.{type_if, type_mark, type_begin, type_outer, type_inner, type_first_mark, type_first, type_between, type_comma, type_close, type_behind, type_step, type_whole, type_finish}
 use Rattle.parse_expr.specs.Goes.{Goes, stay, go}
-use Rattle.parse_expr.proofs.Goes.{some_is, none_is, none_some}
+use Rattle.parse_expr.proofs.Goes.{some_is, none_some}
 use Rattle.parse_expr.proofs.Maxima.{max_light, max_assoc}
 
 -- a place for tokens that complete a list
