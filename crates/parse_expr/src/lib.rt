@@ -5,5 +5,7 @@
 #![tactic(auto)]
 
 mod machine;
+mod types;
 
 pub use machine::{Frame, Held, Link, Mode, Next, TypeFrame, TypeMode, TypeNext, Weighed};
+pub use types::{type_finish, type_step};
