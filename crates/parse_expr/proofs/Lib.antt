@@ -7,3 +7,4 @@ pub mod Sound
 pub mod Steps
 pub mod Reach
 pub mod Readings
+pub mod Runs

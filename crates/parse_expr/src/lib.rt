@@ -5,7 +5,9 @@
 #![tactic(auto)]
 
 mod machine;
+mod reader;
 mod types;
 
 pub use machine::{Frame, Held, Link, Mode, Next, TypeFrame, TypeMode, TypeNext, Weighed};
+pub use reader::{finish, step};
 pub use types::{type_finish, type_step};
