@@ -8,3 +8,5 @@ pub mod Steps
 pub mod Reach
 pub mod Readings
 pub mod Runs
+pub mod Exact
+pub mod Loops

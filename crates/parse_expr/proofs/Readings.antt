@@ -1,5 +1,5 @@
 -- The two machines read the grammar: what is derived is read, what is read is derived, and each run can be completed.
-use Rattle.std.proofs.Common.{ℕ, zero, suc, ◌+◌, ◌≤◌, ◌≡◌, max, List, [], ◌∷◌, ◌++◌, length, Option, Some, None, arith, refl, ap, sym, ◌∙◌, subst}
+use Rattle.std.proofs.Common.{ℕ, zero, suc, ◌+◌, ◌≤◌, ◌≡◌, max, List, [], ◌∷◌, ◌++◌, length, Some, None, arith, refl, ap, sym, ◌∙◌, subst}
 use Rattle.std.proofs.Math.Nat.{le-max_left, le-max_right}
 use Rattle.mono_syntax.specs.declared.leaf.Place.{Place}
 use Rattle.mono_syntax.specs.Ann.{Ann}
@@ -20,7 +20,7 @@ use Rattle.parse_expr.specs.declared.machine.Mode.TheVariants as mode
 use Rattle.parse_expr.specs.Types.{DerivesType, IsType, word}
 use Rattle.parse_expr.specs.Grammar as g
 use Rattle.parse_expr.specs.Grammar.{Form, Derives, IsExpr}
-use Rattle.parse_expr.specs.TypeReading.{type_mark, type_begin, type_step, type_finish, AreLightTypes, IsLightType}
+use Rattle.parse_expr.specs.TypeReading.{type_mark, type_begin, type_step, type_finish, type_tree, AreLightTypes, IsLightType}
 use Rattle.parse_expr.specs.Reading.{held, begin, inner_room, step, finish, IsLight, IsLightMode}
 use Rattle.parse_expr.specs.Reading as reading
 use Rattle.parse_expr.specs.Goes.{Goes}
@@ -38,11 +38,6 @@ use Rattle.parse_expr.proofs.Reach.{reach, exactly, settled}
 
 abbrev pub type_start : TypeMode
 type_start = type_mode.Want []
-
--- the tree of what was read
-abbrev pub type_tree : Option Weighed → Option Ann
-type_tree None = None
-type_tree (Some o) = Some o.ann
 
 -- a type is read to its end
 pub type_goes : (r : ℕ) (ts : List Spelled) (a : Ann) → IsType r ts a → (w : ℕ) × Goes (type_step r) (type_mode.Want []) ts (type_mode.Have [] a w)
@@ -97,7 +92,7 @@ pub type_light : (r : ℕ) (ts : List Spelled) (m : TypeMode) → r ≤ 100 → 
 type_light zero ts m h a = subst IsLightType (sym (types_at_zero ts m a).1) tt
 type_light (suc r) ts m h a = type_sound_light h (type_goes_sound (type_start_sound (suc r) (omega arith)) a)
 
-type_complete : (r : ℕ) (ts : List Spelled) (a : Ann) → IsType r ts a → (m : TypeMode) × Goes (type_step r) type_start ts m × (type_tree (type_finish m) ≡ Some a)
+pub type_complete : (r : ℕ) (ts : List Spelled) (a : Ann) → IsType r ts a → (m : TypeMode) × Goes (type_step r) type_start ts m × (type_tree (type_finish m) ≡ Some a)
 type_complete r ts a x = let y = type_goes r ts a x in (_, y.1, refl)
 
 -- tokens are at most one type

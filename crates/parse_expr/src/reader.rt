@@ -107,12 +107,7 @@ fn link_tree(
     Ok(Expr { kind })
 }
 
-fn called(
-    alloc: Global,
-    place: Place,
-    callee: Expr,
-    args: Items<Expr>,
-) -> Result<Expr, AllocError>
+fn called(alloc: Global, place: Place, callee: Expr, args: Items<Expr>) -> Result<Expr, AllocError>
     ensures { IfOk result (λ e. e ≡ expr.call place callee (exprs args)) }
 {
     let callee = Boxed::new(alloc, callee)?;
@@ -538,11 +533,7 @@ fn cast_open(alloc: Global, place: Place, stack: Stack<Frame>, what: What) -> Ne
     ensures { result ≡ next_of (cast_open place stack what) None }
 {
     match what {
-        What::Open => Next::Go(Mode::CastType(
-            place,
-            stack,
-            TypeMode::Want(Stack::new(alloc)),
-        )),
+        What::Open => Next::Go(Mode::CastType(place, stack, TypeMode::Want(Stack::new(alloc)))),
         _ => Next::Stop(None),
     }
 }
