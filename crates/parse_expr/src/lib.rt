@@ -13,3 +13,6 @@ pub use machine::{Frame, Held, Link, Mode, Next, TypeFrame, TypeMode, TypeNext, 
 pub use parsing::{parse_expr, parse_type};
 pub use reader::{finish, step};
 pub use types::{type_finish, type_step};
+
+#[cfg(test)]
+mod tests;

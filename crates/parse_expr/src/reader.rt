@@ -12,6 +12,7 @@ use spelled_tokens::{Spelled, What};
 use sqlite_items::{Boxed, Items};
 use std::alloc::{AllocError, Global};
 
+/// The level of an operator's left part.
 fn link_left(link: Link) -> u32
     ensures { result ≡ link_left link }
 {
@@ -23,6 +24,7 @@ fn link_left(link: Link) -> u32
     }
 }
 
+/// The level of the whole.
 fn link_whole(link: Link) -> u32
     ensures { result ≡ link_whole link }
 {
@@ -35,6 +37,7 @@ fn link_whole(link: Link) -> u32
     }
 }
 
+/// The level of its right part.
 fn link_right(link: Link) -> u32
     ensures { result ≡ link_right link }
 {
@@ -47,6 +50,7 @@ fn link_right(link: Link) -> u32
     }
 }
 
+/// The level of what a frame makes, and 0 where a bracket closes it.
 fn level(frame: &Frame) -> u32
     ensures { result ≡ level frame.now }
 {
@@ -54,22 +58,18 @@ fn level(frame: &Frame) -> u32
         Frame::Binary(link, _, _, _) => link_whole(*link),
         Frame::Not(_) => 3,
         Frame::Neg(_) => 7,
-        Frame::Bracket => 0,
-        Frame::Call(_, _, _, _) => 0,
-        Frame::Cast(_, _, _) => 0,
+        Frame::Bracket | Frame::Call(_, _, _, _) | Frame::Cast(_, _, _) => 0,
     }
 }
 
+/// The level of the part that a frame waits for.
 fn hole_of(frame: &Frame) -> u32
     ensures { result ≡ hole_of frame.now }
 {
     match frame {
         Frame::Binary(link, _, _, _) => link_right(*link),
-        Frame::Not(_) => 3,
-        Frame::Neg(_) => 7,
-        Frame::Bracket => 1,
-        Frame::Call(_, _, _, _) => 1,
-        Frame::Cast(_, _, _) => 1,
+        Frame::Bracket | Frame::Call(_, _, _, _) | Frame::Cast(_, _, _) => 1,
+        _ => level(frame),
     }
 }
 
