@@ -2,11 +2,14 @@
 use Rattle.parse_expr.specs.Goes.{Goes, stay, go}
 use Rattle.std.proofs.Common.{◌≡◌, List, [], ◌∷◌, ◌++◌, Option, Some, None, refl, ap, sym, ◌∙◌, subst}
 
-some_is : {A : Type 0} {x y : A} → Some x ≡ Some y → x ≡ y
+pub some_is : {A : Type 0} {x y : A} → Some x ≡ Some y → x ≡ y
 some_is e = cc
 
-none_is : {A : Type 0} {x : A} → None ≡ Some x → ⊥
+pub none_is : {A : Type 0} {x : A} → None ≡ Some x → ⊥
 none_is e = cc
+
+pub none_some : {A : Type 0} {x : A} (B : Type 0) → None ≡ Some x → B
+none_some B e = absurd (none_is e)
 
 module _ {S T : Type 0} (step : S → T → Option S) where
   pub then : (s m n : S) (ts us : List T) → Goes step s ts m → Goes step m us n → Goes step s (ts ++ us) n
@@ -31,6 +34,14 @@ module _ {S T : Type 0} (step : S → T → Option S) where
       let x = goes_cons a in
       let y = goes_cons b in
       same_end ts x.0 m n x.2 (subst (λ z. Goes step z ts n) (some_is (sym y.1 ∙ x.1)) y.2)
+
+  -- what is left of a run behind its first part
+  pub remains : (front more : List T) (s m n : S) → Goes step s front m → Goes step s (front ++ more) n → Goes step m more n
+  remains [] more s m n a b = subst (λ z. Goes step z more n) (goes_nil a) b
+  remains (t ∷ front) more s m n a b =
+      let x = goes_cons a in
+      let y = goes_cons b in
+      remains front more x.0 m n x.2 (subst (λ z. Goes step z (front ++ more) n) (some_is (sym y.1 ∙ x.1)) y.2)
 
   -- where a step stops, no run goes through
   pub stuck : (front : List T) (s m n : S) (t : T) (more : List T) → Goes step s front m → step m t ≡ None → Goes step s (front ++ (t ∷ more)) n → ⊥

@@ -1,1 +1,12 @@
 pub mod Goes
+pub mod Maxima
+pub mod TypeSound
+pub mod TypeReach
+pub mod Levels
+pub mod Sound
+pub mod Steps
+pub mod Reach
+pub mod Readings
+pub mod Runs
+pub mod Exact
+pub mod Loops

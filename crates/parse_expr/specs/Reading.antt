@@ -4,7 +4,6 @@ use Rattle.mono_syntax.specs.declared.leaf.Op.{Op}
 use Rattle.mono_syntax.specs.declared.leaf.Op.TheVariants as op
 use Rattle.mono_syntax.specs.declared.leaf.Place.{Place}
 use Rattle.mono_syntax.specs.declared.leaf.Word.{Word}
-use Rattle.mono_syntax.specs.Ann.{Ann}
 use Rattle.mono_syntax.specs.Expr as expr
 use Rattle.mono_syntax.specs.Expr.{Expr}
 use Rattle.mono_syntax.specs.ExprView.{exprs}
@@ -22,6 +21,8 @@ use Rattle.parse_expr.specs.declared.machine.Mode.{Mode}
 use Rattle.parse_expr.specs.declared.machine.Mode.TheVariants as mode
 use Rattle.parse_expr.specs.declared.machine.TypeMode.{TypeMode}
 use Rattle.parse_expr.specs.declared.machine.TypeMode.TheVariants as type_mode
+use Rattle.parse_expr.specs.declared.machine.TypeNext.{TypeNext}
+use Rattle.parse_expr.specs.declared.machine.TypeNext.TheVariants as type_next
 use Rattle.parse_expr.specs.declared.machine.Weighed.{Weighed}
 use Rattle.parse_expr.specs.Types.{word}
 use Rattle.parse_expr.specs.Grammar.{Group, comparing, adding, multiplying, group}
@@ -255,3 +256,16 @@ IsLightMode (mode.JoinName p x k) = IsLight k × (length k < 100)
 abbrev pub next_of : Option Mode → Option Expr → Next
 next_of None o = next.Stop o
 next_of (Some m) o = next.Go m
+
+-- whether a token is a comma, and what it does behind the type of a cast
+abbrev pub is_comma : What → Bool
+is_comma what.Comma = true
+is_comma _ = false
+
+abbrev pub cast_closed : Place → List Frame → Option Weighed → Bool → Option Mode
+cast_closed p k (Some a) true = Some (mode.Want (frame.Cast p a.ann a.weight ∷ k))
+cast_closed p k _ _ = None
+
+abbrev pub cast_next : Place → List Frame → Bool → TypeNext → Next
+cast_next p k b (type_next.Go m) = next.Go (mode.CastType p k m)
+cast_next p k b (type_next.Stop o) = next_of (cast_closed p k o b) None

@@ -93,6 +93,11 @@ abbrev pub type_finish : TypeMode → Option Weighed
 type_finish (mode.Have k a w) = type_whole k a w
 type_finish _ = None
 
+-- the tree of what was read
+abbrev pub type_tree : Option Weighed → Option Ann
+type_tree None = None
+type_tree (Some o) = Some o.ann
+
 -- ---- what the code needs besides
 
 abbrev pub type_next : Option TypeMode → Option Weighed → TypeNext

@@ -5,5 +5,14 @@
 #![tactic(auto)]
 
 mod machine;
+mod parsing;
+mod reader;
+mod types;
 
 pub use machine::{Frame, Held, Link, Mode, Next, TypeFrame, TypeMode, TypeNext, Weighed};
+pub use parsing::{parse_expr, parse_type};
+pub use reader::{finish, step};
+pub use types::{type_finish, type_step};
+
+#[cfg(test)]
+mod tests;

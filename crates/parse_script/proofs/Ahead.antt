@@ -42,7 +42,7 @@ use Rattle.parse_script.specs.Reading.{added, added_stage, ending_of, behind_use
 use Rattle.parse_script.specs.Statements.{heaviest}
 use Rattle.parse_script.proofs.Rest.{Rest, RestAt, Next, NextName, Ends, NextExpr, NextType, RestLine, RestUse, RestInside, RestListed, RestListing, RestArgument, RestValue, RestTarget, RestPlain, RestAttribute, RestAssigning, RestTyped, RestNamed}
 use Rattle.parse_script.proofs.Steps.{none_some, some_is, nil_cons, head_is, tail_is}
-use Rattle.parse_script.proofs.Stubs.{expr_goes, expr_some}
+use Rattle.parse_expr.proofs.Readings.{expr_goes, expr_some}
 
 -- the next stage, and what it wants
 pub record On (o : Option Stage) (ts : List Spelled) (all : List Item) : Type 0 where

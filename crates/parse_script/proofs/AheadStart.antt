@@ -60,7 +60,7 @@ use Rattle.parse_script.proofs.DefExact.{def_goes, head_tokens}
 use Rattle.parse_script.proofs.Live.{named_goes}
 use Rattle.parse_script.proofs.Rest.{RestStart, statement, closes, ends, class, def, RestLeft, while_left, branch_left, else_left, def_left, RestBehind, behind, Rest, RestAt, Next, NextExpr, RestLine, RestHead, RestColon, RestUse, RestInside, RestPlain, RestTarget, RestNamed}
 use Rattle.parse_script.proofs.Steps.{none_some, some_is, nil_cons, head_is, tail_is}
-use Rattle.parse_script.proofs.Stubs.{type_goes, postfix_goes}
+use Rattle.parse_expr.proofs.Readings.{type_goes, postfix_goes}
 
 -- the first token of these is this one
 on_first : (a : Around) (t u : Spelled) (ts us : List Spelled) (all : List Item) → t ∷ ts ≡ u ∷ us → On (start_step a u) us all → On (start_step a t) ts all

@@ -44,7 +44,7 @@ use Rattle.parse_script.proofs.DefLive.{def_alive}
 use Rattle.parse_script.proofs.Live.{Live}
 use Rattle.parse_script.proofs.Rest.{RestStart, statement, closes, ends, RestLeft, while_left, branch_left, else_left, def_left, RestBehind, behind, Rest, RestAt, Next, NextName, NextExpr, NextType, RestLine, RestBlock, RestHead, RestColon, RestUse, RestInside, RestListed, RestListing, RestArgument, RestPlain, RestAttribute}
 use Rattle.parse_script.proofs.Steps.{here, Reached, ReachedType, begins}
-use Rattle.parse_script.proofs.Stubs.{expr_alive, type_alive}
+use Rattle.parse_expr.proofs.Readings.{expr_alive, type_alive}
 
 -- tokens, and the items of the script that they end
 pub record Found (P : List Spelled → List Item → Type 0) : Type 0 where

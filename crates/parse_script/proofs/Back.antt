@@ -42,7 +42,7 @@ use Rattle.parse_script.specs.Statements.{heaviest}
 use Rattle.parse_script.proofs.Live.{Live, held_light, named_goes, named_reached, dot_goes, field_goes, attribute_reached}
 use Rattle.parse_script.proofs.Rest.{Rest, RestAt, Next, NextName, Ends, NextExpr, NextType, RestLine, RestUse, RestInside, RestListed, RestListing, RestArgument, RestValue, RestTarget, RestPlain, RestAttribute, RestStarted, RestAssigning, RestTyped, RestNamed}
 use Rattle.parse_script.proofs.Steps.{none_some, some_is, split_option, type_finished, Reached, ReachedType, begins, goes_on, reached_start, reached_more}
-use Rattle.parse_script.proofs.Stubs.{expr_sound}
+use Rattle.parse_expr.proofs.Readings.{expr_sound}
 
 -- the next stage is live, and goes back to what the one before wants
 pub record Sound (Before : List Spelled → List Item → Type 0) (t : Spelled) (n : Stage) : Type 0 where

@@ -55,7 +55,7 @@ use Rattle.parse_script.proofs.DefExact.{def_sound, head_tokens}
 use Rattle.parse_script.proofs.Live.{Live, named_goes, named_reached}
 use Rattle.parse_script.proofs.Rest.{RestStart, statement, closes, ends, class, def, RestLeft, while_left, branch_left, else_left, def_left, RestBehind, behind, Rest, RestAt, Next, NextExpr, RestLine, RestBlock, RestHead, RestColon, RestInside, RestListed, RestListing, RestPlain, RestTyped, RestStarted, RestAssigning, RestNamed, RestClass, RestDef}
 use Rattle.parse_script.proofs.Steps.{none_some, some_is, Reached, begins, reached_start, one}
-use Rattle.parse_script.proofs.Stubs.{expr_sound, postfix_sound, type_sound}
+use Rattle.parse_expr.proofs.Readings.{expr_sound, postfix_sound, type_sound}
 
 -- a statement in front of what is behind it
 abbrev Behind : Around → Stmt → List Spelled → List Item → Type 0

@@ -25,7 +25,7 @@ use Rattle.parse_script.specs.ClassReading.{class_def, field_def, class_word, cl
 use Rattle.parse_script.specs.Definitions.{DerivesField, field, DerivesFields, one_field, more_fields, DerivesClass, no_fields, fields}
 use Rattle.parse_script.specs.Statements.{heaviest}
 use Rattle.parse_script.proofs.Steps.{here, none_some, some_is, head_is, split_option, type_finished, one}
-use Rattle.parse_script.proofs.Stubs.{type_goes, type_sound, type_alive}
+use Rattle.parse_expr.proofs.Readings.{type_goes, type_sound, type_alive}
 
 -- ---- what the grammar has is read
 

@@ -18,7 +18,7 @@ use Rattle.parse_script.specs.ClassReading.{class_def, field_def, class_type, cl
 use Rattle.parse_script.specs.Statements.{heaviest}
 use Rattle.parse_script.proofs.Steps.{here, none_some, some_is, split_option, one, ReachedType, reached_more, reached_start}
 use Rattle.parse_script.proofs.ClassExact.{type_go, pass_go, at_name, at_colon, at_line, at_pass, at_pass_line, at_field, at_word, at_body, at_fields, at_field_end}
-use Rattle.parse_script.proofs.Stubs.{type_alive}
+use Rattle.parse_expr.proofs.Readings.{type_alive}
 
 abbrev pub LiveClass : ClassStage → Type 0
 LiveClass (stage.Type w fs x m) = ReachedType m

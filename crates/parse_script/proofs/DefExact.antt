@@ -25,7 +25,7 @@ use Rattle.parse_script.specs.DefReading.{def_head, param, def_word, def_name, d
 use Rattle.parse_script.specs.Definitions.{DerivesParam, bare, typed, DerivesParams, no_params, last_param, more_params, DerivesResult, no_result, result}
 use Rattle.parse_script.specs.Statements.{heaviest}
 use Rattle.parse_script.proofs.Steps.{here, none_some, some_is, head_is, split_option, type_finished, one}
-use Rattle.parse_script.proofs.Stubs.{type_goes, type_sound}
+use Rattle.parse_expr.proofs.Readings.{type_goes, type_sound}
 
 -- ---- what the grammar has is read
 

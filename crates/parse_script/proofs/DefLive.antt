@@ -19,7 +19,7 @@ use Rattle.parse_script.specs.DefReading.{def_head, param, behind_param, def_typ
 use Rattle.parse_script.specs.Statements.{heaviest}
 use Rattle.parse_script.proofs.Steps.{here, some_is, split_option, one, ReachedType, reached_more, reached_start}
 use Rattle.parse_script.proofs.DefExact.{type_go, result_type_go, line_go, close_ends, at_word, at_name, at_colon, at_line, at_params, at_behind, at_param, at_param_end, at_closed, at_result_end}
-use Rattle.parse_script.proofs.Stubs.{type_alive}
+use Rattle.parse_expr.proofs.Readings.{type_alive}
 
 abbrev pub LiveDef : DefStage → Type 0
 LiveDef (stage.Type w xs x m) = ReachedType m

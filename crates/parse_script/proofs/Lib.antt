@@ -1,4 +1,3 @@
-pub mod Stubs
 pub mod Rest
 pub mod Steps
 pub mod ClassExact

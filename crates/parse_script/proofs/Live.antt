@@ -19,7 +19,7 @@ use Rattle.parse_script.specs.Statements.{heaviest}
 use Rattle.parse_script.proofs.ClassLive.{LiveClass}
 use Rattle.parse_script.proofs.DefLive.{LiveDef}
 use Rattle.parse_script.proofs.Steps.{Reached, ReachedType, begins, goes_on}
-use Rattle.parse_script.proofs.Stubs.{postfix_sound}
+use Rattle.parse_expr.proofs.Readings.{postfix_sound}
 
 -- what holds of a stage that is reached: the readers inside it are reached too
 abbrev pub Live : Stage → Type 0

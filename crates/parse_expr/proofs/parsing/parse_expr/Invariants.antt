@@ -1,0 +1,16 @@
+use Rattle.std.proofs.Common.{◌≤◌, ◌<◌, ◌-◌, length, []}
+use Rattle.parse_expr.specs.declared.machine.Mode.TheVariants as mode
+use Rattle.parse_expr.specs.Reading.{step}
+use Rattle.parse_expr.specs.Goes.{Goes}
+use Rattle.parse_expr.proofs.Loops.{so_far}
+use Rattle.parse_expr.proofs.parsing.parse_expr.Given as goal
+
+abbrev pub invariant-loop-mode : goal.invariant-loop-mode
+invariant-loop-mode l = record {
+  after : l.from ≤ l.at;
+  within : l.at < length l.tokens;
+  runs : Goes (step l.room) (mode.Want []) (so_far l.text l.tokens l.from l.at) l.mode;
+}
+
+abbrev pub decreases-loop-mode : goal.decreases-loop-mode
+decreases-loop-mode l = length l.tokens - l.at
