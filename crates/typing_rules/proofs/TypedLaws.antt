@@ -1,5 +1,5 @@
 -- A script with its casts is well typed.
-use Rattle.std.proofs.Common.{◌≡◌, inl, inr, ℕ, ◌+◌, List, [], ◌∷◌, ◌++◌, length, Some, None, slice_get, map, refl, sym, ◌∙◌, ap, subst, append_assoc, bytes_eq, if◌then◌else◌}
+use Rattle.std.proofs.Common.{◌≡◌, inl, inr, ℕ, ◌+◌, List, [], ◌∷◌, ◌++◌, length, Some, None, slice_get, Option, map, refl, sym, ◌∙◌, ap, subst, append_assoc, bytes_eq, if◌then◌else◌}
 use Rattle.std.proofs.lemmas.List.{length-append}
 use Rattle.std.specs.List.Sorted.{IsPermutation}
 use Rattle.mono_list.proofs.Cases.{split, some_is, none_some}
@@ -7,6 +7,8 @@ use Rattle.mono_syntax.specs.declared.cast.CastClass.{CastClass}
 use Rattle.mono_syntax.specs.declared.cast.CastScript.{CastScript}
 use Rattle.mono_syntax.specs.declared.leaf.Kind.{Kind}
 use Rattle.mono_syntax.specs.declared.leaf.Kind.TheVariants as kind
+use Rattle.mono_syntax.specs.declared.leaf.Op.{Op}
+use Rattle.mono_syntax.specs.declared.leaf.Op.TheVariants as op
 use Rattle.mono_syntax.specs.declared.leaf.Place.{Place}
 use Rattle.mono_syntax.specs.declared.leaf.Site.{Site}
 use Rattle.mono_syntax.specs.declared.script.Scoped.{Scoped}
@@ -19,12 +21,12 @@ use Rattle.mono_syntax.specs.Stmt.{Stmt}
 use Rattle.mono_syntax.specs.CastExpr.{CastExpr, CastExprs}
 use Rattle.mono_syntax.specs.CastStmt.{CastStmt}
 use Rattle.mono_syntax.specs.CastStmtView.{cast_block}
-use Rattle.mono_syntax.specs.Ty.{Ty, dyn, int, obj, Fields, no_fields, more_fields}
+use Rattle.mono_syntax.specs.Ty.{Ty, dyn, int, bool, obj, Fields, no_fields, more_fields}
 use Rattle.mono_tree.specs.CastScripts.{fields_of}
 use Rattle.mono_tree.specs.FieldNames.{names_of}
 use Rattle.mono_tree.specs.Sites.{IsSite, IsSiteTo}
 use Rattle.mono_tree.specs.Precise.{below_dyn}
-use Rattle.mono_tree.specs.WellTyped.{type_of_name, HasField, FieldArguments, NewUse, Scope, HasStaticType, HaveStaticTypes, IsOfType, CastUse, SiteWhere, IsWellTypedStatement, IsWellTypedBlock, scope_of, IsWellTypedClass, IsWellTypedProgram}
+use Rattle.mono_tree.specs.WellTyped.{type_of_name, HasField, FieldArguments, NewUse, Scope, HasStaticType, HaveStaticTypes, IsOfType, CastUse, Arithmetic, Comparison, Equality, OperatorUse, SiteWhere, IsWellTypedStatement, IsWellTypedBlock, scope_of, IsWellTypedClass, IsWellTypedProgram}
 use Rattle.mono_tree.proofs.MeetMade.{name_read}
 use Rattle.mono_tree.proofs.PreciseTest.{precise-Decides}
 use Rattle.mono_tree.proofs.TypeLaws.{precise_refl}
@@ -32,9 +34,11 @@ use Rattle.script_rules.specs.Definitions.{statements_of}
 use Rattle.script_rules.specs.Scoping.{class_list, main_block}
 use Rattle.script_rules.specs.Writes.{in_order, Declares, declares_none, declares_more}
 use Rattle.typing_rules.specs.BuiltForms.{IsBuilt, AreBuiltExprs, IsBuiltLine, AreBuilt}
-use Rattle.typing_rules.specs.Elaborates.{IsSiteFor, Uses, as_it_is, with_cast, UsesAll, uses_none, uses_more, Elaborates, of_number, of_text, of_truth, of_nil, of_name, of_dyn_sum, of_int_sum, of_dyn_read, of_read, of_cast, of_new, ElaborateAll, of_none, of_more, ElaboratesLine, assigns, prints, writes_dyn, writes_static, writes_field, ElaboratesBlock, ends, goes_on}
+use Rattle.typing_rules.specs.Elaborates.{IsSiteFor, Uses, as_it_is, with_cast, UsesAll, uses_none, uses_more, Elaborates, of_number, of_text, of_truth, of_nil, of_name, of_dyn_sum, of_arithmetic, of_comparison, of_equality, of_neg, of_not, of_both, of_either, of_dyn_read, of_read, of_cast, of_new, ElaboratesAt, used_at, ElaboratesPair, used_both, ElaborateAll, of_none, of_more}
+use Rattle.typing_rules.specs.ElaboratesLines.{ElaboratesLine, assigns, prints, writes_dyn, writes_static, writes_field, ElaboratesBlock, ends, goes_on}
 use Rattle.typing_rules.specs.HasCasts.{AreClasses, HasCasts, HaveClassTypes}
 use Rattle.typing_rules.specs.Members.{Names, Numbered, class_at, field_type}
+use Rattle.typing_rules.specs.Operators.{arithmetic, comparison, equality, sort_of}
 use Rattle.typing_rules.proofs.Classes.{at_stands, FoundClass, class_found, FoundDef, def_found}
 use Rattle.typing_rules.proofs.Extending.{Extends, itself, further, adds, stands, uses_extends, all_uses_extend, extends, all_extend, block_extends}
 use Rattle.typing_rules.proofs.Ordered.{in_order-names, in_order-has}
@@ -56,6 +60,28 @@ cons_head e = cc
 
 cons_tail : {A : Type 0} {x y : A} {xs ys : List A} → x ∷ xs ≡ y ∷ ys → xs ≡ ys
 cons_tail e = cc
+
+-- ---- operators of each sort
+
+arithmetic_use : (p : CastScript) (o : Op) (k a : Option ℕ) (s u t : Ty) → sort_of o ≡ arithmetic → Arithmetic p k a s u t → OperatorUse p o k a s u t
+arithmetic_use p op.Add k a s u t e h = inr h
+arithmetic_use p op.Sub k a s u t e h = h
+arithmetic_use p op.Mul k a s u t e h = h
+arithmetic_use p op.Div k a s u t e h = h
+arithmetic_use p op.Mod k a s u t e h = h
+arithmetic_use p _ k a s u t e h = absurd cc
+
+comparison_use : (p : CastScript) (o : Op) (k a : Option ℕ) (s u t : Ty) → sort_of o ≡ comparison → Comparison k a s u t → OperatorUse p o k a s u t
+comparison_use p op.Lt k a s u t e h = h
+comparison_use p op.Le k a s u t e h = h
+comparison_use p op.Gt k a s u t e h = h
+comparison_use p op.Ge k a s u t e h = h
+comparison_use p _ k a s u t e h = absurd cc
+
+equality_use : (p : CastScript) (o : Op) (k a : Option ℕ) (s u t : Ty) → sort_of o ≡ equality → Equality k a t → OperatorUse p o k a s u t
+equality_use p op.Eq k a s u t e h = h
+equality_use p op.Ne k a s u t e h = h
+equality_use p _ k a s u t e h = absurd cc
 
 module _ (p : CastScript) (names : Names) (scope : Scope) (same_names : names.values ≡ scope.names) where
   site_at : (ss : List Site) (x : Site) (zs : List Site) (q : Place) (k : Kind) (s t : Ty) → IsSiteFor p.types q k s t x → Extends (ss ++ x ∷ zs) p.sites → IsSite p (length ss) k
@@ -123,6 +149,11 @@ module _ (p : CastScript) (names : Names) (scope : Scope) (same_names : names.va
         in
         (g.types, g.typed, record { class = found.class; at = found.at; arguments = arguments; type = sym type })
 
+    -- both parts can be used at t
+    record ArePair (c d : CastExpr) (t : Ty) : Type 0 where
+      pub left : IsOfType p scope c t
+      pub right : IsOfType p scope d t
+
     mutual
       expr_typed : (ss us : List Site) (e : Expr) (s : Ty) (c : CastExpr) → Elaborates p.types names ss e s c us → IsBuilt names e → Extends us p.sites → HasStaticType p scope c s
       expr_typed ss us e s c of_number b f = (b, refl)
@@ -137,13 +168,22 @@ module _ (p : CastScript) (names : Names) (scope : Scope) (same_names : names.va
           let right = expr_typed vs ws _ dyn _ h b.1 whole in
           let second = only_site (length ws + 1) kind.Arithmetic dyn (second_at ws x y q kind.Arithmetic dyn dyn j f) in
           (dyn, dyn, left, right, inl (record { operator = site_at ws x (y ∷ []) q kind.Operator dyn dyn i f; arithmetic = second; left = refl; right = refl; type = refl }))
-      expr_typed ss us e s c (of_int_sum {us = vs} {vs = ws} {ws = xs} {xs = ys} {p = q} {s = u} {t = v} {x = x} g h n i j k) b f =
-          let last = further (adds ys (x ∷ [])) f in
-          let mid = further (uses_extends p.types names j) last in
-          let whole = further (uses_extends p.types names i) mid in
-          let left = used_typed ws xs _ u int _ _ i mid (expr_typed ss vs _ u _ g b.0 (further (extends p.types names h) whole)) in
-          let right = used_typed xs ys _ v int _ _ j last (expr_typed vs ws _ v _ h b.1 whole) in
-          (left.0, right.0, left.1, right.1, inr (record { operator = refl; left = left.2; right = right.2 }, site_at ys x [] q kind.Arithmetic dyn dyn k f, refl))
+      expr_typed ss us e s c (of_arithmetic {us = vs} {o = o} {p = q} {a = x} {b = y} {s = u} {t = v} {x = z} k n g i) b f =
+          let h = pair_typed ss vs x y u v int _ _ g b.0 b.1 (further (adds vs (z ∷ [])) f) in
+          let site = site_at vs z [] q kind.Arithmetic dyn dyn i f in
+          (h.left.0, h.right.0, h.left.1, h.right.1, arithmetic_use p o None (Some (length vs)) h.left.0 h.right.0 int k (record { operator = refl; left = h.left.2; right = h.right.2 }, site, refl))
+      expr_typed ss us e s c (of_comparison {o = o} {a = x} {b = y} {s = u} {t = v} k g) b f =
+          let h = pair_typed ss us x y u v int _ _ g b.0 b.1 f in
+          (h.left.0, h.right.0, h.left.1, h.right.1, comparison_use p o None None h.left.0 h.right.0 bool k (record { operator = refl; left = h.left.2; right = h.right.2 }, refl, refl))
+      expr_typed ss us e s c (of_equality {us = vs} {o = o} {s = u} {t = v} k g h) b f =
+          let left = expr_typed ss vs _ u _ g b.0 (further (extends p.types names h) f) in
+          let right = expr_typed vs us _ v _ h b.1 f in
+          (u, v, left, right, equality_use p o None None u v bool k (refl, refl, refl))
+      expr_typed ss us e s c (of_neg {us = vs} {p = q} {a = x} {x = z} g i) b f =
+          (site_at vs z [] q kind.Arithmetic dyn dyn i f, at_typed ss vs x int _ g b (further (adds vs (z ∷ [])) f), refl)
+      expr_typed ss us e s c (of_not {a = x} g) b f = (at_typed ss us x bool _ g b f, refl)
+      expr_typed ss us e s c (of_both {a = x} {b = y} {s = u} {t = v} g) b f = let h = pair_typed ss us x y u v bool _ _ g b.0 b.1 f in (h.left, h.right, refl)
+      expr_typed ss us e s c (of_either {a = x} {b = y} {s = u} {t = v} g) b f = let h = pair_typed ss us x y u v bool _ _ g b.0 b.1 f in (h.left, h.right, refl)
       expr_typed ss us e s c (of_dyn_read {us = vs} {w = w} {x = x} g i) b f =
           (dyn, expr_typed ss vs _ dyn _ g b (further (adds vs (x ∷ [])) f), (refl, site_at vs x [] w.place kind.Member dyn dyn i f))
       expr_typed ss us e s c (of_read {w = w} {fs = fs} g h) b f = (obj fs, expr_typed ss us _ (obj fs) _ g b f, (found_field fs w.text s h, refl))
@@ -153,6 +193,18 @@ module _ (p : CastScript) (names : Names) (scope : Scope) (same_names : names.va
       expr_typed ss us e s c (of_new {us = vs} {w = w} {es = es} {n = n} {fs = fs} {t = t} {ts = ts} {cs = cs} {ds = ds} e1 d same g u) b f =
           let args = all_typed ss vs es ts cs g b.1 (further (all_uses_extend p.types names u) f) in
           subst (λ (z : Ty). HasStaticType p scope c z) (sym same) (new_typed vs us n w.text es ts cs ds fs e1 d u f args)
+
+      pub at_typed : (ss us : List Site) (e : Expr) (t : Ty) (c : CastExpr) → ElaboratesAt p.types names ss e t c us → IsBuilt names e → Extends us p.sites → IsOfType p scope c t
+      at_typed ss us e t c (used_at {us = vs} {s = s} g u) b f =
+          used_typed vs us _ s t _ _ u f (expr_typed ss vs _ s _ g b (further (uses_extends p.types names u) f))
+
+      pair_typed : (ss us : List Site) (x y : Expr) (s t u : Ty) (c d : CastExpr) → ElaboratesPair p.types names ss x y s t u c d us → IsBuilt names x → IsBuilt names y → Extends us p.sites
+          → ArePair c d u
+      pair_typed ss us x y s t u c d (used_both {us = vs} {vs = ws} {ws = xs} g h i j) b k f =
+          let mid = further (uses_extends p.types names j) f in
+          let whole = further (uses_extends p.types names i) mid in
+          let left = expr_typed ss vs _ s _ g b (further (extends p.types names h) whole) in
+          record { left = used_typed ws xs _ s u _ _ i mid left; right = used_typed xs us _ t u _ _ j f (expr_typed vs ws _ t _ h k whole) }
 
       all_typed : (ss us : List Site) (es : Exprs) (ts : List Ty) (cs : CastExprs) → ElaborateAll p.types names ss es ts cs us → AreBuiltExprs names es → Extends us p.sites
           → HaveStaticTypes p scope cs ts

@@ -1,12 +1,11 @@
--- The forms that typing is built for so far: classes, and lines that assign, write or print, of sums, fields, casts and new objects,
--- all of whose names are known.
+-- The forms that typing is built for so far: classes, and lines that assign, write or print, of operators, fields, casts and new
+-- objects, all of whose names are known.
 use Rattle.std.specs.Prelude.{◌≡◌, ◌≤◌, List, [], ◌∷◌, Some}
-use Rattle.mono_syntax.specs.declared.leaf.Op.TheVariants.{Add}
 use Rattle.mono_syntax.specs.declared.refusal.Reason.TheVariants.{NotBuilt}
 use Rattle.mono_syntax.specs.declared.refusal.Refusal.{Refusal}
 use Rattle.mono_syntax.specs.declared.tree.Item.{Item}
 use Rattle.mono_syntax.specs.declared.tree.Item.TheVariants as item
-use Rattle.mono_syntax.specs.Expr.{Expr, local, number, text, truth, nil, binary, read, call, cast, Exprs, no_exprs, more_exprs}
+use Rattle.mono_syntax.specs.Expr.{Expr, local, number, text, truth, nil, neg, negation, binary, both, either, read, call, cast, Exprs, no_exprs, more_exprs}
 use Rattle.mono_syntax.specs.Stmt.{Stmt, assign, print, write}
 use Rattle.mono_syntax.specs.Ty.{Ty, Fields}
 use Rattle.mono_tree.specs.WellTyped.{type_of_name}
@@ -20,7 +19,11 @@ abbrev mutual
   IsBuilt names (text p t) = Unit {0}
   IsBuilt names (truth p b) = Unit {0}
   IsBuilt names (nil p) = Unit {0}
-  IsBuilt names (binary Add p a b) = IsBuilt names a × IsBuilt names b
+  IsBuilt names (neg p a) = IsBuilt names a
+  IsBuilt names (negation p a) = IsBuilt names a
+  IsBuilt names (binary o p a b) = IsBuilt names a × IsBuilt names b
+  IsBuilt names (both a b) = IsBuilt names a × IsBuilt names b
+  IsBuilt names (either a b) = IsBuilt names a × IsBuilt names b
   IsBuilt names (read a w) = IsBuilt names a
   IsBuilt names (cast p a e) = ((t : Ty) × Writes names.classes a t) × IsBuilt names e
   IsBuilt names (call p (local w) es) =

@@ -14,9 +14,9 @@ use Rattle.script_rules.specs.BlockNames.{Target, firsts, all_targets}
 use Rattle.script_rules.specs.Scoping.{AreDistinct, class_list, main_block}
 use Rattle.script_rules.specs.Writes.{WritesAny, IsClassType}
 use Rattle.typing_rules.specs.BuiltForms.{AreBuilt, not_built}
-use Rattle.typing_rules.specs.Elaborates.{ElaboratesBlock}
+use Rattle.typing_rules.specs.ElaboratesLines.{ElaboratesBlock}
 use Rattle.typing_rules.specs.Members.{Names}
-use Rattle.typing_rules.specs.TypingFaults.{BlockFault}
+use Rattle.typing_rules.specs.LineFaults.{BlockFault}
 
 -- the classes with their field names in declared order, and their types
 abbrev pub AreClasses : List ClassDef → List ClassDef → List CastClass → Type 0
