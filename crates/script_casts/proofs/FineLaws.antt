@@ -3,12 +3,11 @@ use Rattle.std.proofs.Common.{◌≡◌, ℕ, true, List, [], ◌∷◌, refl, s
 use Rattle.std.specs.Prelude.{Option, Some, None, is_some}
 use Rattle.std.proofs.lemmas.Bool.{and_parts, and_from, leb-true, le-leb}
 use Rattle.mono_syntax.specs.declared.cast.NamedType.{NamedType}
-use Rattle.mono_syntax.specs.declared.leaf.Op.TheVariants.{Add}
 use Rattle.mono_syntax.specs.declared.leaf.Word.{Word}
 use Rattle.mono_syntax.specs.declared.tree.Item.{Item}
 use Rattle.mono_syntax.specs.declared.tree.Item.TheVariants as item
 use Rattle.mono_syntax.specs.Ann.{Ann}
-use Rattle.mono_syntax.specs.Expr.{Expr, local, number, text, truth, nil, binary, read, call, cast, Exprs, no_exprs, more_exprs}
+use Rattle.mono_syntax.specs.Expr.{Expr, local, number, text, truth, nil, neg, negation, binary, both, either, read, call, cast, Exprs, no_exprs, more_exprs}
 use Rattle.mono_syntax.specs.Stmt.{Stmt, assign, print, write}
 use Rattle.mono_syntax.specs.Ty.{Ty, Fields}
 use Rattle.mono_syntax.specs.TyView.{fields}
@@ -76,7 +75,11 @@ module _ (names : Names) (ks : Known) (known : IsKnown names ks) where
     fine_built (text p t) h = tt
     fine_built (truth p b) h = tt
     fine_built (nil p) h = tt
-    fine_built (binary Add p a b) h = let f = and_parts (is_fine ks a) (is_fine ks b) h in (fine_built a f.0, fine_built b f.1)
+    fine_built (neg p a) h = fine_built a h
+    fine_built (negation p a) h = fine_built a h
+    fine_built (binary o p a b) h = let f = and_parts (is_fine ks a) (is_fine ks b) h in (fine_built a f.0, fine_built b f.1)
+    fine_built (both a b) h = let f = and_parts (is_fine ks a) (is_fine ks b) h in (fine_built a f.0, fine_built b f.1)
+    fine_built (either a b) h = let f = and_parts (is_fine ks a) (is_fine ks b) h in (fine_built a f.0, fine_built b f.1)
     fine_built (read a w) h = fine_built a h
     fine_built (cast p a e) h = let f = and_parts (is_written ks.annotations a) (is_fine ks e) h in (annotation_there a f.0, fine_built e f.1)
     fine_built (call p (local w) es) h =
@@ -110,7 +113,11 @@ module _ (names : Names) (ks : Known) (known : IsKnown names ks) where
     built_fine (text p t) h = refl
     built_fine (truth p b) h = refl
     built_fine (nil p) h = refl
-    built_fine (binary Add p a b) h = and_from (is_fine ks a) (is_fine ks b) (built_fine a h.0) (built_fine b h.1)
+    built_fine (neg p a) h = built_fine a h
+    built_fine (negation p a) h = built_fine a h
+    built_fine (binary o p a b) h = and_from (is_fine ks a) (is_fine ks b) (built_fine a h.0) (built_fine b h.1)
+    built_fine (both a b) h = and_from (is_fine ks a) (is_fine ks b) (built_fine a h.0) (built_fine b h.1)
+    built_fine (either a b) h = and_from (is_fine ks a) (is_fine ks b) (built_fine a h.0) (built_fine b h.1)
     built_fine (read a w) h = built_fine a h
     built_fine (cast p a e) h = and_from (is_written ks.annotations a) (is_fine ks e) (annotation_tested a h.0.0 h.0.1) (built_fine e h.1)
     built_fine (call p (local w) es) h =

@@ -19,10 +19,11 @@ use Rattle.mono_tree.specs.Meet.{AreApart}
 use Rattle.mono_tree.specs.Precise.{Precise}
 use Rattle.mono_tree.specs.WellTyped.{type_of_name}
 use Rattle.script_rules.specs.Definitions.{statements_of}
-use Rattle.typing_rules.specs.Elaborates.{ElaboratesLine, assigns, prints, writes_dyn, writes_static, writes_field, ElaboratesBlock, ends, goes_on}
+use Rattle.typing_rules.specs.ElaboratesLines.{ElaboratesLine, assigns, prints, writes_dyn, writes_static, writes_field, ElaboratesBlock, ends, goes_on}
 use Rattle.typing_rules.specs.Members.{Names, field_type, member_type}
 use Rattle.typing_rules.specs.SourcePlaces.{place_of}
-use Rattle.typing_rules.specs.TypingFaults.{at, LineFault, in_value, at_value, in_print, in_receiver, in_written, no_target, at_written, BlockFault, in_this, in_later}
+use Rattle.typing_rules.specs.TypingFaults.{at}
+use Rattle.typing_rules.specs.LineFaults.{LineFault, in_value, at_value, in_print, in_receiver, in_written, no_target, at_written, BlockFault, in_this, in_later}
 use Rattle.script_casts.specs.declared.known.Known.{Known}
 use Rattle.script_casts.specs.declared.sites.Cast.{Cast}
 use Rattle.script_casts.specs.declared.sites.Part.{Part}

@@ -20,7 +20,8 @@ use Rattle.mono_syntax.specs.Ty.{Ty, dyn, int, bool, str, nil, fun, obj, Fields}
 use Rattle.mono_tree.specs.Static.{is_static}
 use Rattle.mono_tree.specs.WellTyped.{type_of_name}
 use Rattle.script_rules.specs.Definitions.{statements_of}
-use Rattle.typing_rules.specs.Elaborates.{IsSiteFor, Uses, Elaborates, ElaborateAll, ElaboratesLine, assigns, prints, writes_dyn, writes_static, writes_field, ElaboratesBlock, ends, goes_on}
+use Rattle.typing_rules.specs.Elaborates.{IsSiteFor, Uses, Elaborates, ElaborateAll}
+use Rattle.typing_rules.specs.ElaboratesLines.{ElaboratesLine, assigns, prints, writes_dyn, writes_static, writes_field, ElaboratesBlock, ends, goes_on}
 use Rattle.typing_rules.specs.Members.{Names, field_type}
 use Rattle.script_casts.specs.declared.known.Known.{Known}
 use Rattle.script_casts.specs.declared.sites.Cast.{Cast}

@@ -15,10 +15,10 @@ use Rattle.mono_tree.specs.WellTyped.{IsWellTypedProgram}
 use Rattle.script_rules.specs.BlockNames.{Target, firsts, all_targets}
 use Rattle.script_rules.specs.Scoping.{IsScope, class_list, main_block}
 use Rattle.typing_rules.specs.BuiltForms.{AreBuilt, not_built}
-use Rattle.typing_rules.specs.Elaborates.{ElaboratesBlock}
+use Rattle.typing_rules.specs.ElaboratesLines.{ElaboratesBlock}
 use Rattle.typing_rules.specs.HasCasts.{AreClasses, AreNames, IsMainNames, HasCasts, IsRefusal, unbuilt, mistyped, IsFault, HaveClassTypes}
 use Rattle.typing_rules.specs.Members.{Names}
-use Rattle.typing_rules.specs.TypingFaults.{BlockFault}
+use Rattle.typing_rules.specs.LineFaults.{BlockFault}
 use Rattle.typing_rules.proofs.TypedLaws.{well_typed}
 use Rattle.script_casts.specs.declared.known.Known.{Known}
 use Rattle.script_casts.specs.declared.statements.Body.{Body}

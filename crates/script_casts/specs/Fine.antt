@@ -1,9 +1,8 @@
 -- Whether a script is of the built forms and names what is known, as the code tests it.
 use Rattle.std.specs.Prelude.{List, [], ◌∷◌, Bool, true, false, ◌&&◌, is_some, nat_le}
-use Rattle.mono_syntax.specs.declared.leaf.Op.TheVariants.{Add}
 use Rattle.mono_syntax.specs.declared.tree.Item.{Item}
 use Rattle.mono_syntax.specs.declared.tree.Item.TheVariants as item
-use Rattle.mono_syntax.specs.Expr.{Expr, local, number, text, truth, nil, binary, read, call, cast, Exprs, no_exprs, more_exprs}
+use Rattle.mono_syntax.specs.Expr.{Expr, local, number, text, truth, nil, neg, negation, binary, both, either, read, call, cast, Exprs, no_exprs, more_exprs}
 use Rattle.mono_syntax.specs.Stmt.{Stmt, assign, print, write}
 use Rattle.mono_tree.specs.WellTyped.{type_of_name}
 use Rattle.script_casts.specs.declared.known.Known.{Known}
@@ -23,7 +22,11 @@ abbrev mutual
   is_fine ks (text p t) = true
   is_fine ks (truth p b) = true
   is_fine ks (nil p) = true
-  is_fine ks (binary Add p a b) = is_fine ks a && is_fine ks b
+  is_fine ks (neg p a) = is_fine ks a
+  is_fine ks (negation p a) = is_fine ks a
+  is_fine ks (binary o p a b) = is_fine ks a && is_fine ks b
+  is_fine ks (both a b) = is_fine ks a && is_fine ks b
+  is_fine ks (either a b) = is_fine ks a && is_fine ks b
   is_fine ks (read a w) = is_fine ks a
   is_fine ks (cast p a e) = is_written ks.annotations a && is_fine ks e
   is_fine ks (call p f es) = is_class ks.classes f && are_fine ks es

@@ -4,7 +4,7 @@ ghost use Rattle.script_casts.specs.Fine.{is_class, is_fine, are_fine, is_fine_l
 
 use crate::annotations::{is_written, type_of};
 use crate::known::{Known, KnownClass, known_class};
-use mono_syntax::{Expr, ExprKind, Item, Op, Stmt, StmtKind};
+use mono_syntax::{Expr, ExprKind, Item, Stmt, StmtKind};
 
 /// The greatest integer that a script can write.
 const GREATEST: u64 = 140_737_488_355_327;
@@ -30,7 +30,11 @@ fn is_fine(known: &Known, e: &Expr) -> bool
         ExprKind::Text(_, _) => true,
         ExprKind::Bool(_, _) => true,
         ExprKind::Nil(_) => true,
-        ExprKind::Binary(Op::Add, _, a, b) => is_fine(known, a.get()) && is_fine(known, b.get()),
+        ExprKind::Neg(_, a) => is_fine(known, a.get()),
+        ExprKind::Not(_, a) => is_fine(known, a.get()),
+        ExprKind::Binary(_, _, a, b) => is_fine(known, a.get()) && is_fine(known, b.get()),
+        ExprKind::And(a, b) => is_fine(known, a.get()) && is_fine(known, b.get()),
+        ExprKind::Or(a, b) => is_fine(known, a.get()) && is_fine(known, b.get()),
         ExprKind::Read(a, _) => is_fine(known, a.get()),
         ExprKind::Cast(_, ann, a) => {
             is_written(known.annotations.as_slice(), ann) && is_fine(known, a.get())

@@ -6,9 +6,10 @@ ghost use Rattle.script_casts.specs.Refusals.{Gives};
 use crate::annotations::{type_of, written};
 use crate::known::Known;
 use crate::objects::{Parts, called};
+use crate::operators::{conjoined, denied, disjoined, negated, operated};
 use crate::sites::{Cast, NOT_BUILT, Table, of_base_type};
-use crate::uses::{cast_to, read_member, read_name, summed};
-use mono_syntax::{CastExprKind, Expr, ExprKind, LoadFault, Op, TyKind, Word};
+use crate::uses::{cast_to, read_member, read_name};
+use mono_syntax::{CastExprKind, Expr, ExprKind, LoadFault, TyKind, Word};
 use sqlite_items::Items;
 use std::alloc::Global;
 
@@ -40,10 +41,28 @@ pub fn inserted(alloc: Global, known: &Known, e: &Expr, table: Table) -> Result<
             of_base_type(alloc, kind, *place, TyKind::Bool, table)
         }
         ExprKind::Nil(place) => of_base_type(alloc, CastExprKind::Nil, *place, TyKind::Nil, table),
-        ExprKind::Binary(Op::Add, place, a, b) => {
+        ExprKind::Neg(place, a) => {
+            let part = inserted(alloc, known, a.get(), table)?;
+            negated(alloc, known.dynamic, *place, part)
+        }
+        ExprKind::Not(place, a) => {
+            let part = inserted(alloc, known, a.get(), table)?;
+            denied(alloc, *place, part)
+        }
+        ExprKind::Binary(op, place, a, b) => {
             let first = inserted(alloc, known, a.get(), table)?;
             let second = inserted(alloc, known, b.get(), first.table)?;
-            summed(alloc, known.dynamic, *place, first.part, second)
+            operated(alloc, known.dynamic, *op, *place, first.part, second)
+        }
+        ExprKind::And(a, b) => {
+            let first = inserted(alloc, known, a.get(), table)?;
+            let second = inserted(alloc, known, b.get(), first.table)?;
+            conjoined(alloc, first.part, second)
+        }
+        ExprKind::Or(a, b) => {
+            let first = inserted(alloc, known, a.get(), table)?;
+            let second = inserted(alloc, known, b.get(), first.table)?;
+            disjoined(alloc, first.part, second)
         }
         ExprKind::Read(a, word) => {
             let object = inserted(alloc, known, a.get(), table)?;

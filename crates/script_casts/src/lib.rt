@@ -8,6 +8,7 @@ mod fine;
 mod inserting;
 mod known;
 mod objects;
+mod operators;
 mod script;
 mod sites;
 mod statements;
