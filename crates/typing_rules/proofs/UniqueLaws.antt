@@ -19,7 +19,7 @@ use Rattle.mono_tree.specs.Precise.{Precise}
 use Rattle.mono_tree.specs.WellTyped.{type_of_name}
 use Rattle.script_rules.specs.Scoping.{AreDistinct}
 use Rattle.script_rules.specs.Writes.{Writes, Declares, in_order}
-use Rattle.typing_rules.specs.Elaborates.{IsSiteFor, IsPlainSite, Uses, as_it_is, with_cast, UsesAll, uses_none, uses_more, Elaborates, of_number, of_text, of_truth, of_nil, of_name, of_dyn_sum, of_arithmetic, of_comparison, of_equality, of_neg, of_not, of_both, of_either, of_dyn_read, of_read, of_cast, of_new, ElaboratesAt, used_at, ElaboratesPair, used_both, ElaborateAll, of_none, of_more}
+use Rattle.typing_rules.specs.Elaborates.{IsSiteFor, IsPlainSite, Uses, as_it_is, with_cast, UsesAll, uses_none, uses_more, Elaborates, of_number, of_text, of_truth, of_nil, of_name, of_dyn_sum, of_arithmetic, of_comparison, of_equality, of_neg, of_not, of_both, of_either, of_dyn_read, of_read, of_cast, of_new, ElaboratesAt, used_at, ElaboratesPair, used_pair, ElaborateAll, of_none, of_more}
 use Rattle.typing_rules.specs.Members.{Names, Numbered, class_at, field_type}
 use Rattle.typing_rules.specs.Operators.{Sort, arithmetic, comparison, equality, sort_of}
 use Rattle.typing_rules.specs.SourcePlaces.{place_of}
@@ -146,7 +146,7 @@ module _ (types : List Ty) (names : Names) (distinct : AreDistinct types) where
     pub second_used : Uses types ws (place_of b) t right u g zs
 
   pair_row : (ss zs : List Site) (a b : Expr) (s t u : Ty) (f g : CastExpr) → ElaboratesPair types names ss a b s t u f g zs → PairRow ss a b s t u f g zs
-  pair_row ss zs a b s t u f g (used_both h k i j) = record { us = _; vs = _; ws = _; left = _; right = _; first = h; second = k; first_used = i; second_used = j }
+  pair_row ss zs a b s t u f g (used_pair h k i j) = record { us = _; vs = _; ws = _; left = _; right = _; first = h; second = k; first_used = i; second_used = j }
 
   -- other arithmetic
   record ArithmeticRow (ss : List Site) (o : Op) (p : Place) (a b : Expr) (s : Ty) (c : CastExpr) (zs : List Site) : Type 0 where
@@ -483,7 +483,7 @@ module _ (types : List Ty) (names : Names) (distinct : AreDistinct types) where
 
     one_pair : (ss us vs : List Site) (a b : Expr) (s s2 t t2 u : Ty) (c c2 d d2 : CastExpr) → ElaboratesPair types names ss a b s t u c d us → ElaboratesPair types names ss a b s2 t2 u c2 d2 vs
         → SamePair c c2 d d2 us vs
-    one_pair ss us vs a b s s2 t t2 u c c2 d d2 (used_both {us = us1} {vs = vs1} {ws = ws1} {c = left} {d = right} f g i j) h =
+    one_pair ss us vs a b s s2 t t2 u c c2 d d2 (used_pair {us = us1} {vs = vs1} {ws = ws1} {c = left} {d = right} f g i j) h =
         let r = pair_row ss vs a b s2 t2 u c2 d2 h in
         let first = one ss us1 r.us a s s2 left r.left f r.first in
         let second = one us1 vs1 r.vs b t t2 right r.right g (behind b us1 r.us r.vs t2 r.right first.sites r.second) in
@@ -494,7 +494,7 @@ module _ (types : List Ty) (names : Names) (distinct : AreDistinct types) where
     -- the types of two parts are those that they have otherwise
     pair_types : (ss us vs ws : List Site) (a b : Expr) (s s2 t t2 u : Ty) (c c2 d d2 : CastExpr) → ElaboratesPair types names ss a b s t u c d us → Elaborates types names ss a s2 c2 vs
         → Elaborates types names vs b t2 d2 ws → (s ≡ s2) × (t ≡ t2)
-    pair_types ss us vs ws a b s s2 t t2 u c c2 d d2 (used_both {us = us1} {vs = vs1} {c = left} {d = right} f g i j) h k =
+    pair_types ss us vs ws a b s s2 t t2 u c c2 d d2 (used_pair {us = us1} {vs = vs1} {c = left} {d = right} f g i j) h k =
         let first = one ss us1 vs a s s2 left c2 f h in
         let second = one us1 vs1 ws b t t2 right d2 g (behind b us1 vs ws t2 d2 first.sites k) in
         (first.type, second.type)

@@ -110,7 +110,7 @@ mutual
 
   -- Behind the sites ss, a of type s and then b of type t are each used at u, and become c and d.
   pub data ElaboratesPair (types : List Ty) (names : Names) : List Site → Expr → Expr → Ty → Ty → Ty → CastExpr → CastExpr → List Site → Type 0 where
-    used_both : {ss us vs ws xs : List Site} {a b : Expr} {s t u : Ty} {c d f g : CastExpr}
+    used_pair : {ss us vs ws xs : List Site} {a b : Expr} {s t u : Ty} {c d f g : CastExpr}
         → Elaborates types names ss a s c us → Elaborates types names us b t d vs
         → Uses types vs (place_of a) s c u f ws → Uses types ws (place_of b) t d u g xs
         → ElaboratesPair types names ss a b s t u f g xs
