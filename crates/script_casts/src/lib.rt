@@ -4,6 +4,7 @@
 #![tactic(auto)]
 
 mod annotations;
+mod blocks;
 mod fine;
 mod inserting;
 mod known;

@@ -46,13 +46,7 @@ fn is_dyn_sum(op: Op, a: &Ty, b: &Ty) -> bool
 }
 
 /// Two parts, each used at a type. Their casts come behind the sites of both.
-fn used_both(
-    alloc: Global,
-    ty: TyKind,
-    a: Part,
-    b: Part,
-    table: Table,
-) -> Result<Pair, LoadFault>
+fn used_both(alloc: Global, ty: TyKind, a: Part, b: Part, table: Table) -> Result<Pair, LoadFault>
     ensures { Gives result (used_both (ty_of ty) a b table) }
 {
     let ty = new_type(alloc, ty)?;
@@ -161,13 +155,7 @@ fn converted(
     }
 }
 
-fn equated(
-    alloc: Global,
-    op: Op,
-    a: Part,
-    b: Part,
-    table: Table,
-) -> Result<Cast, LoadFault>
+fn equated(alloc: Global, op: Op, a: Part, b: Part, table: Table) -> Result<Cast, LoadFault>
     ensures { Gives result (equated op a b table) }
 {
     let kind = CastExprKind::Binary(op, None, None, a.expr, b.expr);
@@ -194,18 +182,19 @@ pub fn operated(
 }
 
 /// The negative of a part, at its place.
-pub fn negated(
-    alloc: Global,
-    dynamic: TyAt,
-    place: Place,
-    a: Cast,
-) -> Result<Cast, LoadFault>
+pub fn negated(alloc: Global, dynamic: TyAt, place: Place, a: Cast) -> Result<Cast, LoadFault>
     ensures { Gives result (negated dynamic place a.part a.table) }
 {
     let int = new_type(alloc, TyKind::Int)?;
     let Cast { part, table } = used(alloc, a.part, &int, a.table)?;
     let (site, table) = with_plain_site(dynamic, table, place, Kind::Arithmetic)?;
-    of_base_type(alloc, CastExprKind::Neg(site, part.expr), place, TyKind::Int, table)
+    of_base_type(
+        alloc,
+        CastExprKind::Neg(site, part.expr),
+        place,
+        TyKind::Int,
+        table,
+    )
 }
 
 /// `not` of a part.
@@ -214,7 +203,13 @@ pub fn denied(alloc: Global, place: Place, a: Cast) -> Result<Cast, LoadFault>
 {
     let truth = new_type(alloc, TyKind::Bool)?;
     let Cast { part, table } = used(alloc, a.part, &truth, a.table)?;
-    of_base_type(alloc, CastExprKind::Not(part.expr), place, TyKind::Bool, table)
+    of_base_type(
+        alloc,
+        CastExprKind::Not(part.expr),
+        place,
+        TyKind::Bool,
+        table,
+    )
 }
 
 /// `and` of two parts.

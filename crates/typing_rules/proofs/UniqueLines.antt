@@ -140,7 +140,6 @@ module _ (types : List Ty) (names : Names) (distinct : AreDistinct types) where
       inr (inl (record { parts = record { us = _; vs = _; fields = _; s = _; t = _; object = _; value = _; used = _; first = f; second = g; found = e; uses = u }; static = h; line = refl }))
   line_row ss zs s c (writes_field f g e h u i) =
       inr (inr (record { ws = _; x = _; parts = record { us = _; vs = _; fields = _; s = _; t = _; object = _; value = _; used = _; first = f; second = g; found = e; uses = u }; open_ = h; site = i; line = refl; sites = refl }))
-
   line_row ss zs s c passes = record { line = refl; sites = refl }
   line_row ss zs s c (stands_alone f) = record { s = _; value = _; first = f; line = refl }
   line_row ss zs s c (branches f g) = record { us = _; branches = _; end = _; first = f; second = g; line = refl }
