@@ -168,6 +168,10 @@ called ks _ p xs = Err not_built
 
 -- ---- expressions
 
+-- two expressions from left to right, and then their whole
+abbrev pub in_turn : Result Cast Refusal → (Table → Result Cast Refusal) → (Part → Part → Table → Result Cast Refusal) → Result Cast Refusal
+in_turn a b whole = and_then a (λ u. and_then (b u.table) (λ v. whole u.part v.part v.table))
+
 -- a name of the block
 abbrev pub named : Known → Word → Table → Result Cast Refusal
 named ks w b = read_name ks.dynamic (type_of_name ks.values w.text) w b
@@ -182,9 +186,9 @@ abbrev mutual
   inserted ks (expr.nil p) b = plain cast.nil p nil b
   inserted ks (expr.neg p x) b = and_then (inserted ks x b) (λ u. negated ks.dynamic p u.part u.table)
   inserted ks (expr.negation p x) b = and_then (inserted ks x b) (λ u. denied p u.part u.table)
-  inserted ks (expr.binary o p x y) b = and_then (inserted ks x b) (λ u. and_then (inserted ks y u.table) (λ v. operated ks.dynamic o p u.part v.part v.table))
-  inserted ks (expr.both x y) b = and_then (inserted ks x b) (λ u. and_then (inserted ks y u.table) (λ v. conjoined u.part v.part v.table))
-  inserted ks (expr.either x y) b = and_then (inserted ks x b) (λ u. and_then (inserted ks y u.table) (λ v. disjoined u.part v.part v.table))
+  inserted ks (expr.binary o p x y) b = in_turn (inserted ks x b) (λ t. inserted ks y t) (λ u v t. operated ks.dynamic o p u v t)
+  inserted ks (expr.both x y) b = in_turn (inserted ks x b) (λ t. inserted ks y t) (λ u v t. conjoined u v t)
+  inserted ks (expr.either x y) b = in_turn (inserted ks x b) (λ t. inserted ks y t) (λ u v t. disjoined u v t)
   inserted ks (expr.read x w) b = and_then (inserted ks x b) (λ u. read_member ks.dynamic u.part.ty u.part.expr u.part.place w u.table)
   inserted ks (expr.cast p a x) b = and_then (inserted ks x b) (λ u. cast_to (written ks.annotations a) p u.part u.table)
   inserted ks (expr.call p f xs) b = and_then (inserted_all ks [] xs b) (λ u. called ks.classes f p u)

@@ -36,6 +36,7 @@ fn is_arithmetic(op: Op) -> bool
     }
 }
 
+/// Whether an operator is a sum of two values of type `Dyn`.
 fn is_dyn_sum(op: Op, a: &Ty, b: &Ty) -> bool
     ensures { result ≡ is_dyn_sum op a.now b.now }
 {
@@ -59,6 +60,7 @@ fn used_both(alloc: Global, ty: TyKind, a: Part, b: Part, table: Table) -> Resul
     })
 }
 
+/// Arithmetic on two parts that are used at `int`.
 fn calculated(
     alloc: Global,
     dynamic: TyAt,
@@ -78,6 +80,7 @@ fn calculated(
     of_base_type(alloc, kind, first.place, TyKind::Int, table)
 }
 
+/// A comparison of two parts that are used at `int`.
 fn compared(alloc: Global, op: Op, parts: Pair) -> Result<Cast, LoadFault>
     ensures { Gives result (compared op parts) }
 {
@@ -90,6 +93,7 @@ fn compared(alloc: Global, op: Op, parts: Pair) -> Result<Cast, LoadFault>
     of_base_type(alloc, kind, first.place, TyKind::Bool, table)
 }
 
+/// An operator on two parts that are used at `int`.
 fn on_integers(
     alloc: Global,
     dynamic: TyAt,
@@ -106,6 +110,7 @@ fn on_integers(
     }
 }
 
+/// An operator that uses its parts at `int`.
 fn int_operator(
     alloc: Global,
     dynamic: TyAt,
@@ -121,6 +126,7 @@ fn int_operator(
     on_integers(alloc, dynamic, op, place, parts)
 }
 
+/// A sum of two parts of type `Dyn`.
 fn dyn_sum(
     alloc: Global,
     dynamic: TyAt,
@@ -137,6 +143,7 @@ fn dyn_sum(
     of_base_type(alloc, kind, a.place, TyKind::Dyn, table)
 }
 
+/// Arithmetic or a comparison.
 fn converted(
     alloc: Global,
     dynamic: TyAt,
@@ -155,6 +162,7 @@ fn converted(
     }
 }
 
+/// Whether two parts, of any types, are equal.
 fn equated(alloc: Global, op: Op, a: Part, b: Part, table: Table) -> Result<Cast, LoadFault>
     ensures { Gives result (equated op a b table) }
 {
