@@ -53,6 +53,7 @@ mutual
     branches : {ss us vs : List Site} {bs : Branches} {last : Else} {cs : CastBranches} {d : CastElse}
         → ElaboratesBranches types names ss bs cs us → ElaboratesElse types names us last d vs
         → ElaboratesLine types names ss (stmt.if_any bs last) (cast_stmt.if_any cs d) vs
+    -- a loop is a condition and the block behind it
     loops : {ss us : List Site} {e : Expr} {body : Block} {c : CastExpr} {d : CastBlock}
         → ElaboratesGuarded types names ss e body c d us → ElaboratesLine types names ss (stmt.loop e body) (cast_stmt.loop c d) us
 
@@ -61,12 +62,14 @@ mutual
     guards : {ss us vs : List Site} {e : Expr} {body : Block} {c : CastExpr} {d : CastBlock}
         → ElaboratesAt types names ss e bool c us → ElaboratesBlock types names us body d vs → ElaboratesGuarded types names ss e body c d vs
 
+  -- the branches of an `if`
   pub data ElaboratesBranches (types : List Ty) (names : Names) : List Site → Branches → CastBranches → List Site → Type 0 where
     no_branch : {ss : List Site} → ElaboratesBranches types names ss stmt.no_branches cast_stmt.no_branches ss
     next_branch : {ss us vs : List Site} {e : Expr} {body : Block} {bs : Branches} {c : CastExpr} {d : CastBlock} {cs : CastBranches}
         → ElaboratesGuarded types names ss e body c d us → ElaboratesBranches types names us bs cs vs
         → ElaboratesBranches types names ss (stmt.more_branches e body bs) (cast_stmt.more_branches c d cs) vs
 
+  -- the block behind an else, where there is one
   pub data ElaboratesElse (types : List Ty) (names : Names) : List Site → Else → CastElse → List Site → Type 0 where
     no_last : {ss : List Site} → ElaboratesElse types names ss stmt.no_else cast_stmt.no_else ss
     at_last : {ss us : List Site} {body : Block} {d : CastBlock}

@@ -37,17 +37,20 @@ mutual
     at_written : {o e : Expr} {w : Word} {ss us vs : List Site} {s t u : Ty} {c d : CastExpr}
         → Elaborates types names ss o s c us → Elaborates types names us e u d vs → member_type s w.text ≡ Some t → AreApart u t
         → LineFault types names (write o w e) (at (place_of e) Inconsistent)
+    -- the branches come before the else
     in_branches : {r : Refusal} {bs : Branches} {last : Else} → BranchFault types names bs r → LineFault types names (if_any bs last) r
     in_else : {r : Refusal} {bs : Branches} {body : Block} {ss us : List Site} {cs : CastBranches}
         → ElaboratesBranches types names ss bs cs us → BlockFault types names body r → LineFault types names (if_any bs (otherwise body)) r
     in_loop : {r : Refusal} {e : Expr} {body : Block} → GuardedFault types names e body r → LineFault types names (loop e body) r
 
-  -- the first fault of a condition and the block behind it: the condition is a whole of its own, so that the fault of its use comes first
+  -- the first fault of a condition and the block behind it: a condition is a whole of its own, so that the fault of its use comes before
+  -- those of the block
   pub data GuardedFault (types : List Ty) (names : Names) : Expr → Block → Refusal → Type 0 where
     in_condition : {r : Refusal} {e : Expr} {body : Block} → FaultAt types names e bool r → GuardedFault types names e body r
     in_guarded : {r : Refusal} {e : Expr} {body : Block} {ss us : List Site} {c : CastExpr}
         → ElaboratesAt types names ss e bool c us → BlockFault types names body r → GuardedFault types names e body r
 
+  -- the first fault of branches in order
   pub data BranchFault (types : List Ty) (names : Names) : Branches → Refusal → Type 0 where
     in_branch : {r : Refusal} {e : Expr} {body : Block} {bs : Branches} → GuardedFault types names e body r → BranchFault types names (more_branches e body bs) r
     in_later_branch : {r : Refusal} {e : Expr} {body : Block} {bs : Branches} {ss us : List Site} {c : CastExpr} {d : CastBlock}

@@ -34,10 +34,12 @@ mutual
     -- arithmetic and comparisons use their parts at `int`
     in_integers : {o : Op} {p : Place} {r : Refusal} {a b : Expr}
         → (sort_of o ≡ equality → ⊥) → PairFault types names a b int r → TypingFault types names (binary o p a b) r
+    -- equality asks nothing of its parts
     in_left : {o : Op} {p : Place} {r : Refusal} {a b : Expr}
         → sort_of o ≡ equality → TypingFault types names a r → TypingFault types names (binary o p a b) r
     in_right : {o : Op} {p : Place} {r : Refusal} {a b : Expr} {ss us : List Site} {s : Ty} {c : CastExpr}
         → sort_of o ≡ equality → Elaborates types names ss a s c us → TypingFault types names b r → TypingFault types names (binary o p a b) r
+    -- each of these uses its parts at one type
     in_neg : {p : Place} {r : Refusal} {a : Expr} → FaultAt types names a int r → TypingFault types names (neg p a) r
     in_not : {p : Place} {r : Refusal} {a : Expr} → FaultAt types names a bool r → TypingFault types names (negation p a) r
     in_both : {r : Refusal} {a b : Expr} → PairFault types names a b bool r → TypingFault types names (both a b) r
