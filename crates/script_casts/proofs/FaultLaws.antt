@@ -1,39 +1,45 @@
 -- What insertion refuses is the first fault of typing.
-use Rattle.std.proofs.Common.{◌≡◌, true, false, cond, ◌&&◌, List, [], ◌∷◌, ◌++◌, length, Err, refl, sym, ◌∙◌, ap, subst}
+use Rattle.std.proofs.Common.{◌≡◌, true, false, cond, List, [], ◌∷◌, ◌++◌, length, Result, Ok, Err, refl, sym, ◌∙◌, ap, subst}
 use Rattle.std.specs.Prelude.{Option, Some, None, is_some, map, slice_get, nat_eq}
 use Rattle.std.proofs.lemmas.Bool.{and_parts, eqb-true, eqb-false}
 use Rattle.mono_list.proofs.Cases.{split}
-use Rattle.mono_syntax.specs.declared.leaf.Op.TheVariants.{Add}
+use Rattle.mono_syntax.specs.declared.leaf.Op.{Op}
 use Rattle.mono_syntax.specs.declared.leaf.Place.{Place}
+use Rattle.mono_syntax.specs.declared.leaf.Site.{Site}
 use Rattle.mono_syntax.specs.declared.leaf.Word.{Word}
 use Rattle.mono_syntax.specs.declared.refusal.Reason.TheVariants.{Inconsistent, NoField, Arity}
 use Rattle.mono_syntax.specs.declared.refusal.Refusal.{Refusal}
 use Rattle.mono_syntax.specs.Ann.{Ann}
 use Rattle.mono_syntax.specs.Expr.{Expr, Exprs, no_exprs, more_exprs}
 use Rattle.mono_syntax.specs.Expr as expr
+use Rattle.mono_syntax.specs.CastExpr.{CastExpr}
 use Rattle.mono_syntax.specs.CastExpr as cast
 use Rattle.mono_syntax.specs.CastExprView.{cast_exprs}
 use Rattle.mono_syntax.specs.Ty.{Ty, dyn, int, bool, str, nil, fun, obj}
 use Rattle.mono_syntax.specs.TyView.{fields}
 use Rattle.mono_tree.specs.WellTyped.{type_of_name}
+use Rattle.typing_rules.specs.Elaborates.{Elaborates}
 use Rattle.typing_rules.specs.Members.{Names, Numbered, class_at, field_type, member_type, field_count, expr_count}
+use Rattle.typing_rules.specs.Operators.{Sort, arithmetic, comparison, equality, sort_of}
 use Rattle.typing_rules.specs.SourcePlaces.{place_of}
-use Rattle.typing_rules.specs.TypingFaults.{at, TypingFault, in_first, in_second, at_first, at_second, in_object, no_field, in_cast, at_cast, in_argument, arity, at_argument, FaultIn, in_head, in_tail, UseFault}
+use Rattle.typing_rules.specs.TypingFaults.{at, TypingFault, in_integers, in_left, in_right, in_neg, in_not, in_both, in_either, FaultAt, in_used, at_used, PairFault, in_first, in_second, at_first, at_second, in_object, no_field, in_cast, at_cast, in_argument, arity, at_argument, FaultIn, in_head, in_tail, UseFault}
 use Rattle.script_casts.specs.declared.known.Known.{Known}
 use Rattle.script_casts.specs.declared.known.KnownClass.{KnownClass}
 use Rattle.script_casts.specs.declared.objects.Arguments.{Arguments}
 use Rattle.script_casts.specs.declared.objects.Parts.{Parts}
 use Rattle.script_casts.specs.declared.sites.Cast.{Cast}
+use Rattle.script_casts.specs.declared.sites.Pair.{Pair}
 use Rattle.script_casts.specs.declared.sites.Part.{Part}
 use Rattle.script_casts.specs.declared.sites.Table.{Table}
 use Rattle.script_casts.specs.Annotations.{written, is_written}
 use Rattle.script_casts.specs.Fine.{is_fine, are_fine}
 use Rattle.script_casts.specs.KnownNames.{known_class}
-use Rattle.script_casts.specs.TypeList.{is_dyn}
-use Rattle.script_casts.specs.Inserted.{and_then, plain, used, cast_to, read_name, int_operator, int_sum, dyn_sum, summed, read_typed, read_member, used_from, object_of, called, inserted, inserted_all}
+use Rattle.script_casts.specs.OperatorTests.{is_equality, is_arithmetic, is_dyn_sum}
+use Rattle.script_casts.specs.Inserted.{and_then, plain, used, cast_to, read_name, used_both, calculated, compared, on_integers, int_operator, dyn_sum, converted, equated, operated, negated, denied, conjoined, disjoined, read_typed, read_member, used_from, object_of, called, inserted, inserted_all}
 use Rattle.script_casts.proofs.AnnotationLaws.{found_writes, is_written-written}
 use Rattle.script_casts.proofs.Classes.{IsKnownClass, IsKnown, SameClass, same_class}
 use Rattle.script_casts.proofs.InsertLaws.{Within, within_before, IsInserted, AreInserted, inserted_ok, all_inserted_ok}
+use Rattle.script_casts.proofs.OperatorTests.{not_equality}
 use Rattle.script_casts.proofs.PartLaws.{type_of_part, AreAt, count_at, field_count-fields, all_used_err}
 use Rattle.script_casts.proofs.SiteLaws.{fitted_err, used_ok, used_err}
 use Rattle.script_casts.proofs.Steps.{ok_err, err_is, first_err, second_err, then_err}
@@ -72,46 +78,133 @@ module _ (names : Names) (ks : Known) (known : IsKnown names ks) where
   name_err d w b r None k e = cc
   name_err d w b r (Some t) k e = ok_err e
 
-  -- ---- sums
+  -- ---- operators
 
-  int_sum_err : (p : Place) (x y : Expr) (b : Table) (u v : Cast) (r : Refusal) → HasDyn b.types → Inserted x b u → Inserted y u.table v → int_sum ks.dynamic p u.part v.part v.table ≡ Err r
-      → IsRefused (expr.binary Add p x y) b r
-  int_sum_err p x y b u v r d h k e =
+  -- the expression, used at t, is refused so
+  pub record IsRefusedAt (e : Expr) (t : Ty) (b : Table) (r : Refusal) : Type 0 where
+    pub types : List Ty
+    pub within : Within ks.dynamic b.types types
+    pub fault : FaultAt types names e t r
+
+  pub use_err : (e : Expr) (t : Ty) (b : Table) (u : Cast) (r : Refusal) → HasDyn b.types → Inserted e b u → used u.part t u.table ≡ Err r → IsRefusedAt e t b r
+  use_err e t b u r d h q =
+      let c = used_err u.part t u.table r q in
+      let here = within_itself b.types u.table.types h.grows d in
+      record {
+        types = u.table.types;
+        within = within_before ks.dynamic b.types u.table.types u.table.types h.grows here;
+        fault = subst (λ (z : Refusal). FaultAt u.table.types names e t z) (sym (at_place u.part.place (place_of e) r h.place c.0)) (at_used (h.elaborates u.table.types here) c.1);
+      }
+
+  -- the two expressions, each used at t, are refused so
+  record ArePairRefused (x y : Expr) (t : Ty) (b : Table) (r : Refusal) : Type 0 where
+    pub types : List Ty
+    pub within : Within ks.dynamic b.types types
+    pub fault : PairFault types names x y t r
+
+  pair_err : (x y : Expr) (t : Ty) (b : Table) (u v : Cast) (r : Refusal) → HasDyn b.types → Inserted x b u → Inserted y u.table v → used_both t u.part v.part v.table ≡ Err r → ArePairRefused x y t b r
+  pair_err x y t b u v r d h k e =
       let all = grows_on b.types u.table.types v.table.types h.grows k.grows in
       let here = within_itself b.types v.table.types all d in
       let left = h.elaborates v.table.types (within_before ks.dynamic u.table.types v.table.types v.table.types k.grows here) in
       let right = k.elaborates v.table.types here in
       let before = within_before ks.dynamic b.types v.table.types v.table.types all here in
-      elim (then_err (used u.part int v.table) (λ (z : Cast). and_then (used v.part int z.table) (λ z'. int_operator ks.dynamic p z.part z'.part z'.table)) r e) [
+      elim (then_err (used u.part t v.table) (λ (z : Cast). and_then (used v.part t z.table) (λ z'. Ok (record { first = z.part; second = z'.part; table = z'.table }))) r e) [
         | first_err f ↦ (
-            let c = used_err u.part int v.table r f in
+            let c = used_err u.part t v.table r f in
             record {
               types = v.table.types;
               within = before;
-              fault = subst (λ (z : Refusal). TypingFault v.table.types names (expr.binary Add p x y) z) (sym (at_place u.part.place (place_of x) r h.place c.0)) (at_first left right c.1);
+              fault = subst (λ (z : Refusal). PairFault v.table.types names x y t z) (sym (at_place u.part.place (place_of x) r h.place c.0)) (at_first left right c.1);
             }
             )
-        | second_err w f g ↦ elim (then_err (used v.part int w.table) (λ (z' : Cast). int_operator ks.dynamic p w.part z'.part z'.table) r g) [
+        | second_err w f g ↦ elim (then_err (used v.part t w.table) (λ (z' : Cast). Ok (record { first = w.part; second = z'.part; table = z'.table })) r g) [
           | first_err i ↦ (
-              let c = used_err v.part int w.table r i in
+              let c = used_err v.part t w.table r i in
               record {
                 types = v.table.types;
                 within = before;
                 fault =
-                    subst (λ (z : Refusal). TypingFault v.table.types names (expr.binary Add p x y) z) (sym (at_place v.part.place (place_of y) r k.place c.0))
-                    (at_second left right (used_ok u.part int v.table w f).meet.1 c.1);
+                    subst (λ (z : Refusal). PairFault v.table.types names x y t z) (sym (at_place v.part.place (place_of y) r k.place c.0))
+                    (at_second left right (used_ok u.part t v.table w f).meet.1 c.1);
               }
               )
           | second_err z i j ↦ absurd (ok_err j)
         ]
       ]
 
-  sum_err : (p : Place) (x y : Expr) (b : Table) (u v : Cast) (r : Refusal) → HasDyn b.types → Inserted x b u → Inserted y u.table v → summed ks.dynamic p u.part v.part v.table ≡ Err r
-      → IsRefused (expr.binary Add p x y) b r
-  sum_err p x y b u v r d h k =
-      split (is_dyn u.part.ty && is_dyn v.part.ty) (λ z. cond z (dyn_sum ks.dynamic p u.part v.part v.table) (int_sum ks.dynamic p u.part v.part v.table) ≡ Err r → IsRefused (expr.binary Add p x y) b r)
+  integers_err : (o : Op) (p : Place) (u : Pair) (r : Refusal) → on_integers ks.dynamic o p u ≡ Err r → ⊥
+  integers_err o p u r =
+      split (is_arithmetic (sort_of o)) (λ z. cond z (calculated ks.dynamic o p u) (compared o u) ≡ Err r → ⊥) (λ y e. ok_err e) (λ n e. ok_err e)
+
+  int_operator_err : (o : Op) (p : Place) (x y : Expr) (b : Table) (u v : Cast) (r : Refusal) → HasDyn b.types → Inserted x b u → Inserted y u.table v → (sort_of o ≡ equality → ⊥)
+      → int_operator ks.dynamic o p u.part v.part v.table ≡ Err r → IsRefused (expr.binary o p x y) b r
+  int_operator_err o p x y b u v r d h k n e =
+      elim (then_err (used_both int u.part v.part v.table) (λ (z : Pair). on_integers ks.dynamic o p z) r e) [
+        | first_err f ↦ (let i = pair_err x y int b u v r d h k f in record { types = i.types; within = i.within; fault = in_integers n i.fault })
+        | second_err z f g ↦ absurd (integers_err o p z r g)
+      ]
+
+  converted_err : (o : Op) (p : Place) (x y : Expr) (b : Table) (u v : Cast) (r : Refusal) → HasDyn b.types → Inserted x b u → Inserted y u.table v → (sort_of o ≡ equality → ⊥)
+      → converted ks.dynamic o p u.part v.part v.table ≡ Err r → IsRefused (expr.binary o p x y) b r
+  converted_err o p x y b u v r d h k n =
+      split (is_dyn_sum o u.part.ty v.part.ty) (λ z. cond z (dyn_sum ks.dynamic p u.part v.part v.table) (int_operator ks.dynamic o p u.part v.part v.table) ≡ Err r → IsRefused (expr.binary o p x y) b r)
       (λ z e. absurd (ok_err e))
-      (λ n. int_sum_err p x y b u v r d h k)
+      (λ m. int_operator_err o p x y b u v r d h k n)
+
+  operated_err : (o : Op) (p : Place) (x y : Expr) (b : Table) (u v : Cast) (r : Refusal) → HasDyn b.types → Inserted x b u → Inserted y u.table v → operated ks.dynamic o p u.part v.part v.table ≡ Err r
+      → IsRefused (expr.binary o p x y) b r
+  operated_err o p x y b u v r d h k =
+      split (is_equality (sort_of o)) (λ z. cond z (equated o u.part v.part v.table) (converted ks.dynamic o p u.part v.part v.table) ≡ Err r → IsRefused (expr.binary o p x y) b r)
+      (λ z e. absurd (ok_err e))
+      (λ n. converted_err o p x y b u v r d h k (not_equality (sort_of o) n))
+
+  neg_err : (p : Place) (x : Expr) (b : Table) (u : Cast) (r : Refusal) → HasDyn b.types → Inserted x b u → negated ks.dynamic p u.part u.table ≡ Err r → IsRefused (expr.neg p x) b r
+  neg_err p x b u r d h e =
+      elim (then_err (used u.part int u.table) _ r e) [
+        | first_err f ↦ (let i = use_err x int b u r d h f in record { types = i.types; within = i.within; fault = in_neg i.fault })
+        | second_err z f g ↦ absurd (ok_err g)
+      ]
+
+  not_err : (p : Place) (x : Expr) (b : Table) (u : Cast) (r : Refusal) → HasDyn b.types → Inserted x b u → denied p u.part u.table ≡ Err r → IsRefused (expr.negation p x) b r
+  not_err p x b u r d h e =
+      elim (then_err (used u.part bool u.table) _ r e) [
+        | first_err f ↦ (let i = use_err x bool b u r d h f in record { types = i.types; within = i.within; fault = in_not i.fault })
+        | second_err z f g ↦ absurd (ok_err g)
+      ]
+
+  both_err : (x y : Expr) (b : Table) (u v : Cast) (r : Refusal) → HasDyn b.types → Inserted x b u → Inserted y u.table v → conjoined u.part v.part v.table ≡ Err r → IsRefused (expr.both x y) b r
+  both_err x y b u v r d h k e =
+      elim (then_err (used_both bool u.part v.part v.table) _ r e) [
+        | first_err f ↦ (let i = pair_err x y bool b u v r d h k f in record { types = i.types; within = i.within; fault = in_both i.fault })
+        | second_err z f g ↦ absurd (ok_err g)
+      ]
+
+  either_err : (x y : Expr) (b : Table) (u v : Cast) (r : Refusal) → HasDyn b.types → Inserted x b u → Inserted y u.table v → disjoined u.part v.part v.table ≡ Err r → IsRefused (expr.either x y) b r
+  either_err x y b u v r d h k e =
+      elim (then_err (used_both bool u.part v.part v.table) _ r e) [
+        | first_err f ↦ (let i = pair_err x y bool b u v r d h k f in record { types = i.types; within = i.within; fault = in_either i.fault })
+        | second_err z f g ↦ absurd (ok_err g)
+      ]
+
+  -- the first part of an operator is refused
+  first_part : (o : Op) (p : Place) (x y : Expr) (types : List Ty) (r : Refusal) → TypingFault types names x r → TypingFault types names (expr.binary o p x y) r
+  first_part o p x y types r f = go (sort_of o) refl
+    where
+      go : (k : Sort) → sort_of o ≡ k → TypingFault types names (expr.binary o p x y) r
+      go equality e = in_left e f
+      go arithmetic e = in_integers (λ h. absurd cc) (in_first f)
+      go comparison e = in_integers (λ h. absurd cc) (in_first f)
+
+  -- or its second
+  second_part : (o : Op) (p : Place) (x y : Expr) (types : List Ty) (r : Refusal) (ss us : List Site) (s : Ty) (c : CastExpr) → Elaborates types names ss x s c us → TypingFault types names y r
+      → TypingFault types names (expr.binary o p x y) r
+  second_part o p x y types r ss us s c h f = go (sort_of o) refl
+    where
+      go : (k : Sort) → sort_of o ≡ k → TypingFault types names (expr.binary o p x y) r
+      go equality e = in_right e h f
+      go arithmetic e = in_integers (λ i. absurd cc) (in_second h f)
+      go comparison e = in_integers (λ i. absurd cc) (in_second h f)
 
   -- ---- fields
 
@@ -213,6 +306,30 @@ module _ (names : Names) (ks : Known) (known : IsKnown names ks) where
   later_types : (b c : Table) (types : List Ty) → Grows b.types c.types → Within ks.dynamic c.types types → Within ks.dynamic b.types types
   later_types b c types g w = within_before ks.dynamic b.types c.types types g w
 
+  -- two parts and their whole are refused: the first part is, or the second, or the whole
+  data PartErr (x y : Expr) (b : Table) (r : Refusal) (whole : Cast → Cast → Result Cast Refusal) : Type 0 where
+    first_of : (types : List Ty) → Within ks.dynamic b.types types → TypingFault types names x r → PartErr x y b r whole
+    second_of : (types : List Ty) → Within ks.dynamic b.types types → (u : Cast) → Elaborates types names b.sites x u.part.ty u.part.expr u.table.sites → TypingFault types names y r → PartErr x y b r whole
+    whole_of : (u v : Cast) → Inserted x b u → Inserted y u.table v → whole u v ≡ Err r → PartErr x y b r whole
+
+  part_err : (x y : Expr) (b : Table) (r : Refusal) (whole : Cast → Cast → Result Cast Refusal) → HasDyn b.types → (inserted ks x b ≡ Err r → IsRefused x b r)
+      → ((c : Table) → HasDyn c.types → inserted ks y c ≡ Err r → IsRefused y c r)
+      → and_then (inserted ks x b) (λ u. and_then (inserted ks y u.table) (λ v. whole u v)) ≡ Err r → PartErr x y b r whole
+  part_err x y b r whole d f g q =
+      elim (then_err (inserted ks x b) (λ (u : Cast). and_then (inserted ks y u.table) (λ v. whole u v)) r q) [
+        | first_err e ↦ (let h = f e in first_of h.types h.within h.fault)
+        | second_err u e k ↦ (
+            let i = inserted_ok names ks known x b u e in
+            elim (then_err (inserted ks y u.table) (λ (v : Cast). whole u v) r k) [
+              | first_err j ↦ (
+                  let h = g u.table (has_dyn b.types u.table.types i.grows d) j in
+                  second_of h.types (later_types b u.table h.types i.grows h.within) u (i.elaborates h.types h.within) h.fault
+                  )
+              | second_err v j l ↦ whole_of u v i (inserted_ok names ks known y u.table v j) l
+            ]
+            )
+      ]
+
   mutual
     -- a fine expression is refused for a fault of typing alone
     pub inserted_err : (e : Expr) (b : Table) (r : Refusal) → HasDyn b.types → is_fine ks e ≡ true → inserted ks e b ≡ Err r → IsRefused e b r
@@ -221,20 +338,36 @@ module _ (names : Names) (ks : Known) (known : IsKnown names ks) where
     inserted_err (expr.text p t) b r d f q = absurd (ok_err q)
     inserted_err (expr.truth p v) b r d f q = absurd (ok_err q)
     inserted_err (expr.nil p) b r d f q = absurd (ok_err q)
-    inserted_err (expr.binary Add p x y) b r d f q =
+    inserted_err (expr.neg p x) b r d f q =
+        elim (then_err (inserted ks x b) (λ (u : Cast). negated ks.dynamic p u.part u.table) r q) [
+          | first_err e ↦ (let h = inserted_err x b r d f e in record { types = h.types; within = h.within; fault = in_neg (in_used h.fault) })
+          | second_err u e g ↦ neg_err p x b u r d (inserted_ok names ks known x b u e) g
+        ]
+    inserted_err (expr.negation p x) b r d f q =
+        elim (then_err (inserted ks x b) (λ (u : Cast). denied p u.part u.table) r q) [
+          | first_err e ↦ (let h = inserted_err x b r d f e in record { types = h.types; within = h.within; fault = in_not (in_used h.fault) })
+          | second_err u e g ↦ not_err p x b u r d (inserted_ok names ks known x b u e) g
+        ]
+    inserted_err (expr.binary o p x y) b r d f q =
         let fs = and_parts (is_fine ks x) (is_fine ks y) f in
-        elim (then_err (inserted ks x b) (λ (u : Cast). and_then (inserted ks y u.table) (λ v. summed ks.dynamic p u.part v.part v.table)) r q) [
-          | first_err e ↦ (let h = inserted_err x b r d fs.0 e in record { types = h.types; within = h.within; fault = in_first h.fault })
-          | second_err u e g ↦ (
-              let i = inserted_ok names ks known x b u e in
-              elim (then_err (inserted ks y u.table) (λ (v : Cast). summed ks.dynamic p u.part v.part v.table) r g) [
-                | first_err j ↦ (
-                    let h = inserted_err y u.table r (has_dyn b.types u.table.types i.grows d) fs.1 j in
-                    record { types = h.types; within = later_types b u.table h.types i.grows h.within; fault = in_second (i.elaborates h.types h.within) h.fault }
-                    )
-                | second_err v j l ↦ sum_err p x y b u v r d i (inserted_ok names ks known y u.table v j) l
-              ]
-              )
+        elim (part_err x y b r (λ (u : Cast) (v : Cast). operated ks.dynamic o p u.part v.part v.table) d (λ e. inserted_err x b r d fs.0 e) (λ c h e. inserted_err y c r h fs.1 e) q) [
+          | first_of types w g ↦ record { types = types; within = w; fault = first_part o p x y types r g }
+          | second_of types w u h g ↦ record { types = types; within = w; fault = second_part o p x y types r _ _ _ _ h g }
+          | whole_of u v h k g ↦ operated_err o p x y b u v r d h k g
+        ]
+    inserted_err (expr.both x y) b r d f q =
+        let fs = and_parts (is_fine ks x) (is_fine ks y) f in
+        elim (part_err x y b r (λ (u : Cast) (v : Cast). conjoined u.part v.part v.table) d (λ e. inserted_err x b r d fs.0 e) (λ c h e. inserted_err y c r h fs.1 e) q) [
+          | first_of types w g ↦ record { types = types; within = w; fault = in_both (in_first g) }
+          | second_of types w u h g ↦ record { types = types; within = w; fault = in_both (in_second h g) }
+          | whole_of u v h k g ↦ both_err x y b u v r d h k g
+        ]
+    inserted_err (expr.either x y) b r d f q =
+        let fs = and_parts (is_fine ks x) (is_fine ks y) f in
+        elim (part_err x y b r (λ (u : Cast) (v : Cast). disjoined u.part v.part v.table) d (λ e. inserted_err x b r d fs.0 e) (λ c h e. inserted_err y c r h fs.1 e) q) [
+          | first_of types w g ↦ record { types = types; within = w; fault = in_either (in_first g) }
+          | second_of types w u h g ↦ record { types = types; within = w; fault = in_either (in_second h g) }
+          | whole_of u v h k g ↦ either_err x y b u v r d h k g
         ]
     inserted_err (expr.read x w) b r d f q =
         elim (then_err (inserted ks x b) (λ (u : Cast). read_member ks.dynamic u.part.ty u.part.expr u.part.place w u.table) r q) [

@@ -1,25 +1,26 @@
 -- The test of a script's forms and names says whether they are built.
-use Rattle.std.proofs.Common.{◌≡◌, ℕ, true, List, [], ◌∷◌, refl, sym, ◌∙◌, ap}
+use Rattle.std.proofs.Common.{◌≡◌, ℕ, true, ◌&&◌, List, [], ◌∷◌, refl, sym, ◌∙◌, ap}
 use Rattle.std.specs.Prelude.{Option, Some, None, is_some}
 use Rattle.std.proofs.lemmas.Bool.{and_parts, and_from, leb-true, le-leb}
 use Rattle.mono_syntax.specs.declared.cast.NamedType.{NamedType}
-use Rattle.mono_syntax.specs.declared.leaf.Op.TheVariants.{Add}
 use Rattle.mono_syntax.specs.declared.leaf.Word.{Word}
 use Rattle.mono_syntax.specs.declared.tree.Item.{Item}
 use Rattle.mono_syntax.specs.declared.tree.Item.TheVariants as item
 use Rattle.mono_syntax.specs.Ann.{Ann}
-use Rattle.mono_syntax.specs.Expr.{Expr, local, number, text, truth, nil, binary, read, call, cast, Exprs, no_exprs, more_exprs}
-use Rattle.mono_syntax.specs.Stmt.{Stmt, assign, print, write}
+use Rattle.mono_syntax.specs.Expr.{Expr, local, number, text, truth, nil, neg, negation, binary, both, either, read, call, cast, Exprs, no_exprs, more_exprs}
+use Rattle.mono_syntax.specs.Stmt.{Stmt, pass, assign, print, write, plain, if_any, loop, Block, no_stmts, more_stmts, Branches, no_branches, more_branches, Else, no_else, otherwise}
+use Rattle.mono_syntax.specs.StmtView.{block}
 use Rattle.mono_syntax.specs.Ty.{Ty, Fields}
 use Rattle.mono_syntax.specs.TyView.{fields}
 use Rattle.mono_tree.specs.WellTyped.{type_of_name}
+use Rattle.script_rules.specs.Definitions.{statements_of}
 use Rattle.script_rules.specs.Writes.{Writes, Declares}
-use Rattle.typing_rules.specs.BuiltForms.{IsBuilt, AreBuiltExprs, IsBuiltLine, AreBuilt}
+use Rattle.typing_rules.specs.BuiltForms.{IsBuilt, AreBuiltExprs, HasBranch, IsBuiltLine, AreBuiltLines, AreBuiltBranches, IsBuiltElse, AreBuilt}
 use Rattle.typing_rules.specs.Members.{Names, Numbered, class_at}
 use Rattle.script_casts.specs.declared.known.Known.{Known}
 use Rattle.script_casts.specs.declared.known.KnownClass.{KnownClass}
 use Rattle.script_casts.specs.Annotations.{written, is_written}
-use Rattle.script_casts.specs.Fine.{is_fine, are_fine, is_fine_line, all_fine}
+use Rattle.script_casts.specs.Fine.{is_fine, are_fine, has_branch, is_fine_line, are_fine_lines, are_fine_branches, is_fine_else, all_fine}
 use Rattle.script_casts.specs.KnownNames.{known_class}
 use Rattle.script_casts.proofs.AnnotationLaws.{found_writes, written_found, is_written-written}
 use Rattle.script_casts.proofs.Classes.{IsKnown, SameClass, same_class}
@@ -76,7 +77,11 @@ module _ (names : Names) (ks : Known) (known : IsKnown names ks) where
     fine_built (text p t) h = tt
     fine_built (truth p b) h = tt
     fine_built (nil p) h = tt
-    fine_built (binary Add p a b) h = let f = and_parts (is_fine ks a) (is_fine ks b) h in (fine_built a f.0, fine_built b f.1)
+    fine_built (neg p a) h = fine_built a h
+    fine_built (negation p a) h = fine_built a h
+    fine_built (binary o p a b) h = let f = and_parts (is_fine ks a) (is_fine ks b) h in (fine_built a f.0, fine_built b f.1)
+    fine_built (both a b) h = let f = and_parts (is_fine ks a) (is_fine ks b) h in (fine_built a f.0, fine_built b f.1)
+    fine_built (either a b) h = let f = and_parts (is_fine ks a) (is_fine ks b) h in (fine_built a f.0, fine_built b f.1)
     fine_built (read a w) h = fine_built a h
     fine_built (cast p a e) h = let f = and_parts (is_written ks.annotations a) (is_fine ks e) h in (annotation_there a f.0, fine_built e f.1)
     fine_built (call p (local w) es) h =
@@ -89,11 +94,38 @@ module _ (names : Names) (ks : Known) (known : IsKnown names ks) where
     fine_all_built no_exprs h = tt
     fine_all_built (more_exprs e es) h = let f = and_parts (is_fine ks e) (are_fine ks es) h in (fine_built e f.0, fine_all_built es f.1)
 
-  line_built : (s : Stmt) → is_fine_line ks s ≡ true → IsBuiltLine names s
-  line_built (assign w ann e) h = let f = and_parts (is_some (type_of_name ks.values w.text)) (is_fine ks e) h in (known_name w f.0, fine_built e f.1)
-  line_built (print p es) h = fine_all_built es h
-  line_built (write o w e) h = let f = and_parts (is_fine ks o) (is_fine ks e) h in (fine_built o f.0, fine_built e f.1)
-  line_built _ h = absurd cc
+  has_branch_built : (bs : Branches) → has_branch bs ≡ true → HasBranch bs
+  has_branch_built no_branches h = absurd cc
+  has_branch_built (more_branches e body bs) h = tt
+
+  mutual
+    line_built : (s : Stmt) → is_fine_line ks s ≡ true → IsBuiltLine names s
+    line_built pass h = tt
+    line_built (assign w ann e) h = let f = and_parts (is_some (type_of_name ks.values w.text)) (is_fine ks e) h in (known_name w f.0, fine_built e f.1)
+    line_built (print p es) h = fine_all_built es h
+    line_built (write o w e) h = let f = and_parts (is_fine ks o) (is_fine ks e) h in (fine_built o f.0, fine_built e f.1)
+    line_built (plain e) h = fine_built e h
+    line_built (if_any bs last) h =
+        let f = and_parts (has_branch bs) (are_fine_branches ks bs && is_fine_else ks last) h in
+        let g = and_parts (are_fine_branches ks bs) (is_fine_else ks last) f.1 in
+        (has_branch_built bs f.0, branches_built bs g.0, else_built last g.1)
+    line_built (loop e body) h = let f = and_parts (is_fine ks e) (are_fine_lines ks body) h in (fine_built e f.0, lines_built body f.1)
+    line_built _ h = absurd cc
+
+    pub lines_built : (ss : Block) → are_fine_lines ks ss ≡ true → AreBuiltLines names ss
+    lines_built no_stmts h = tt
+    lines_built (more_stmts s ss) h = let f = and_parts (is_fine_line ks s) (are_fine_lines ks ss) h in (line_built s f.0, lines_built ss f.1)
+
+    branches_built : (bs : Branches) → are_fine_branches ks bs ≡ true → AreBuiltBranches names bs
+    branches_built no_branches h = tt
+    branches_built (more_branches e body bs) h =
+        let f = and_parts (is_fine ks e) (are_fine_lines ks body && are_fine_branches ks bs) h in
+        let g = and_parts (are_fine_lines ks body) (are_fine_branches ks bs) f.1 in
+        (fine_built e f.0, lines_built body g.0, branches_built bs g.1)
+
+    else_built : (last : Else) → is_fine_else ks last ≡ true → IsBuiltElse names last
+    else_built no_else h = tt
+    else_built (otherwise body) h = lines_built body h
 
   pub fine_items : (is : List Item) → all_fine ks is ≡ true → AreBuilt names is
   fine_items [] h = tt
@@ -110,7 +142,11 @@ module _ (names : Names) (ks : Known) (known : IsKnown names ks) where
     built_fine (text p t) h = refl
     built_fine (truth p b) h = refl
     built_fine (nil p) h = refl
-    built_fine (binary Add p a b) h = and_from (is_fine ks a) (is_fine ks b) (built_fine a h.0) (built_fine b h.1)
+    built_fine (neg p a) h = built_fine a h
+    built_fine (negation p a) h = built_fine a h
+    built_fine (binary o p a b) h = and_from (is_fine ks a) (is_fine ks b) (built_fine a h.0) (built_fine b h.1)
+    built_fine (both a b) h = and_from (is_fine ks a) (is_fine ks b) (built_fine a h.0) (built_fine b h.1)
+    built_fine (either a b) h = and_from (is_fine ks a) (is_fine ks b) (built_fine a h.0) (built_fine b h.1)
     built_fine (read a w) h = built_fine a h
     built_fine (cast p a e) h = and_from (is_written ks.annotations a) (is_fine ks e) (annotation_tested a h.0.0 h.0.1) (built_fine e h.1)
     built_fine (call p (local w) es) h =
@@ -124,15 +160,49 @@ module _ (names : Names) (ks : Known) (known : IsKnown names ks) where
     all_built_fine no_exprs h = refl
     all_built_fine (more_exprs e es) h = and_from (is_fine ks e) (are_fine ks es) (built_fine e h.0) (all_built_fine es h.1)
 
-  built_line : (s : Stmt) → IsBuiltLine names s → is_fine_line ks s ≡ true
-  built_line (assign w ann e) h =
-      and_from (is_some (type_of_name ks.values w.text)) (is_fine ks e) (some_there (type_of_name ks.values w.text) h.0.0 (name_known w h.0.0 h.0.1)) (built_fine e h.1)
-  built_line (print p es) h = all_built_fine es h
-  built_line (write o w e) h = and_from (is_fine ks o) (is_fine ks e) (built_fine o h.0) (built_fine e h.1)
-  built_line _ h = absurd h
+  built_has_branch : (bs : Branches) → HasBranch bs → has_branch bs ≡ true
+  built_has_branch no_branches h = absurd h
+  built_has_branch (more_branches e body bs) h = refl
+
+  mutual
+    built_line : (s : Stmt) → IsBuiltLine names s → is_fine_line ks s ≡ true
+    built_line pass h = refl
+    built_line (assign w ann e) h =
+        and_from (is_some (type_of_name ks.values w.text)) (is_fine ks e) (some_there (type_of_name ks.values w.text) h.0.0 (name_known w h.0.0 h.0.1)) (built_fine e h.1)
+    built_line (print p es) h = all_built_fine es h
+    built_line (write o w e) h = and_from (is_fine ks o) (is_fine ks e) (built_fine o h.0) (built_fine e h.1)
+    built_line (plain e) h = built_fine e h
+    built_line (if_any bs last) h =
+        and_from (has_branch bs) (are_fine_branches ks bs && is_fine_else ks last) (built_has_branch bs h.0)
+        (and_from (are_fine_branches ks bs) (is_fine_else ks last) (built_branches bs h.1) (built_else last h.2))
+    built_line (loop e body) h = and_from (is_fine ks e) (are_fine_lines ks body) (built_fine e h.0) (built_lines body h.1)
+    built_line _ h = absurd h
+
+    built_lines : (ss : Block) → AreBuiltLines names ss → are_fine_lines ks ss ≡ true
+    built_lines no_stmts h = refl
+    built_lines (more_stmts s ss) h = and_from (is_fine_line ks s) (are_fine_lines ks ss) (built_line s h.0) (built_lines ss h.1)
+
+    built_branches : (bs : Branches) → AreBuiltBranches names bs → are_fine_branches ks bs ≡ true
+    built_branches no_branches h = refl
+    built_branches (more_branches e body bs) h =
+        and_from (is_fine ks e) (are_fine_lines ks body && are_fine_branches ks bs) (built_fine e h.0)
+        (and_from (are_fine_lines ks body) (are_fine_branches ks bs) (built_lines body h.1) (built_branches bs h.2))
+
+    built_else : (last : Else) → IsBuiltElse names last → is_fine_else ks last ≡ true
+    built_else no_else h = refl
+    built_else (otherwise body) h = built_lines body h
 
   pub items_fine : (is : List Item) → AreBuilt names is → all_fine ks is ≡ true
   items_fine [] h = refl
   items_fine (item.Class d ∷ is) h = items_fine is h
   items_fine (item.Stmt s ∷ is) h = and_from (is_fine_line ks s) (all_fine ks is) (built_line s h.0) (items_fine is h.1)
   items_fine (item.Def d ∷ is) h = absurd h
+
+-- the statements of items that pass the test pass it
+pub fine_block : (ks : Known) (is : List Item) → all_fine ks is ≡ true → are_fine_lines ks (block (statements_of is)) ≡ true
+fine_block ks [] h = refl
+fine_block ks (item.Class d ∷ is) h = fine_block ks is h
+fine_block ks (item.Stmt s ∷ is) h =
+    let f = and_parts (is_fine_line ks s) (all_fine ks is) h in
+    and_from (is_fine_line ks s) (are_fine_lines ks (block (statements_of is))) f.0 (fine_block ks is f.1)
+fine_block ks (item.Def d ∷ is) h = absurd cc

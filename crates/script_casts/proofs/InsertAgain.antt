@@ -1,13 +1,15 @@
 -- What typing with casts says is what insertion gives, and the first fault of typing is what it refuses.
-use Rattle.std.proofs.Common.{◌≡◌, Bool, true, false, cond, ◌&&◌, List, [], ◌∷◌, ◌++◌, length, Result, Ok, Err, refl, sym, ◌∙◌, ap, subst, append_assoc}
+use Rattle.std.proofs.Common.{◌≡◌, Bool, true, false, cond, List, [], ◌∷◌, ◌++◌, length, Result, Ok, Err, refl, sym, ◌∙◌, ap, subst, append_assoc}
 use Rattle.std.specs.Prelude.{Option, Some, None, map, nat_eq}
-use Rattle.std.proofs.lemmas.Bool.{and_parts, and_from, false_from_ne_true, eqb-true}
+use Rattle.std.proofs.lemmas.Bool.{false_from_ne_true, eqb-true}
 use Rattle.std.proofs.lemmas.List.{append-nil}
 use Rattle.std.proofs.Common.{eq-eqb}
 use Rattle.mono_list.proofs.Cases.{some_is, none_some, some_none}
+use Rattle.mono_syntax.specs.declared.leaf.Op.{Op}
 use Rattle.mono_syntax.specs.declared.leaf.Op.TheVariants.{Add}
 use Rattle.mono_syntax.specs.declared.leaf.Place.{Place}
 use Rattle.mono_syntax.specs.declared.leaf.Site.{Site}
+use Rattle.mono_syntax.specs.declared.leaf.TyAt.{TyAt}
 use Rattle.mono_syntax.specs.declared.leaf.Word.{Word}
 use Rattle.mono_syntax.specs.declared.refusal.Reason.TheVariants.{Inconsistent, NoField, Arity}
 use Rattle.mono_syntax.specs.declared.refusal.Refusal.{Refusal}
@@ -24,35 +26,51 @@ use Rattle.mono_tree.specs.Precise.{below_dyn}
 use Rattle.mono_tree.specs.WellTyped.{type_of_name}
 use Rattle.mono_tree.proofs.Order.{reflexive}
 use Rattle.script_rules.specs.Writes.{in_order, Declares}
-use Rattle.typing_rules.specs.Elaborates.{Elaborates, of_number, of_text, of_truth, of_nil, of_name, of_dyn_sum, of_int_sum, of_dyn_read, of_read, of_cast, of_new, ElaborateAll, of_none, of_more}
+use Rattle.typing_rules.specs.Elaborates.{Elaborates, of_number, of_text, of_truth, of_nil, of_name, of_dyn_sum, of_arithmetic, of_comparison, of_equality, of_neg, of_not, of_both, of_either, of_dyn_read, of_read, of_cast, of_new, ElaboratesAt, used_at, ElaboratesPair, used_pair, ElaborateAll, of_none, of_more}
 use Rattle.typing_rules.specs.Members.{Names, Numbered, class_at, field_type, member_type, field_count, expr_count}
+use Rattle.typing_rules.specs.Operators.{Sort, arithmetic, comparison, equality, sort_of}
 use Rattle.typing_rules.specs.SourcePlaces.{place_of}
-use Rattle.typing_rules.specs.TypingFaults.{at, TypingFault, in_first, in_second, at_first, at_second, in_object, no_field, in_cast, at_cast, in_argument, arity, at_argument, FaultIn, in_head, in_tail, UseFault}
+use Rattle.typing_rules.specs.TypingFaults.{at, TypingFault, in_integers, in_left, in_right, in_neg, in_not, in_both, in_either, FaultAt, in_used, at_used, PairFault, in_first, in_second, at_first, at_second, in_object, no_field, in_cast, at_cast, in_argument, arity, at_argument, FaultIn, in_head, in_tail, UseFault}
 use Rattle.script_casts.specs.declared.known.Known.{Known}
 use Rattle.script_casts.specs.declared.known.KnownClass.{KnownClass}
 use Rattle.script_casts.specs.declared.objects.Arguments.{Arguments}
 use Rattle.script_casts.specs.declared.objects.Parts.{Parts}
 use Rattle.script_casts.specs.declared.sites.Cast.{Cast}
+use Rattle.script_casts.specs.declared.sites.Pair.{Pair}
 use Rattle.script_casts.specs.declared.sites.Part.{Part}
 use Rattle.script_casts.specs.declared.sites.Table.{Table}
 use Rattle.script_casts.specs.Annotations.{written}
 use Rattle.script_casts.specs.KnownNames.{known_class}
-use Rattle.script_casts.specs.TypeList.{is_dyn}
-use Rattle.script_casts.specs.Inserted.{used, cast_to, read_name, int_sum, dyn_sum, summed, read_typed, read_member, used_from, new_object, object_of, called, inserted, inserted_all}
+use Rattle.script_casts.specs.OperatorTests.{is_equality, is_arithmetic, is_dyn_sum}
+use Rattle.script_casts.specs.Inserted.{used, cast_to, read_name, used_both, calculated, compared, on_integers, int_operator, dyn_sum, converted, equated, operated, read_typed, read_member, used_from, new_object, object_of, called, inserted, inserted_all}
 use Rattle.script_casts.proofs.AnnotationLaws.{written_found}
 use Rattle.script_casts.proofs.Classes.{IsKnown, SameClass, same_class}
 use Rattle.script_casts.proofs.FineLaws.{name_known}
-use Rattle.script_casts.proofs.InsertLaws.{is_dyn_is, inserted_ok, all_inserted_ok}
+use Rattle.script_casts.proofs.InsertLaws.{inserted_ok, all_inserted_ok}
+use Rattle.script_casts.proofs.OperatorTests.{unequal, not_equality_of, no_sum, no_dyn_sum, dyn_sums}
 use Rattle.script_casts.proofs.PartLaws.{type_of_part, AreAt, count_at, field_count-fields, AllMeet, uses_meet, meet_count, all_used_again, IsFirstApart, first_apart, apart_stops}
 use Rattle.script_casts.proofs.SiteLaws.{meet_not_apart, fitted_unless, fitted_apart, used_unless, used_apart, uses_not_apart}
 use Rattle.script_casts.proofs.Steps.{then_is, then_stops}
 use Rattle.script_casts.proofs.WriteLaws.{declares_once}
 
-is_dyn_of : (s : Ty) → s ≡ dyn → is_dyn s ≡ true
-is_dyn_of s e = ap is_dyn e
+-- ---- what an operator gives
 
-decided : (d : _) (p : Place) (a b : Part) (c : Table) (z : Bool) → (is_dyn a.ty && is_dyn b.ty) ≡ z → summed d p a b c ≡ cond z (dyn_sum d p a b c) (int_sum d p a b c)
-decided d p a b c z e = ap (λ (y : Bool). cond y (dyn_sum d p a b c) (int_sum d p a b c)) e
+equal_is : (d : TyAt) (o : Op) (p : Place) (a b : Part) (c : Table) → sort_of o ≡ equality → operated d o p a b c ≡ equated o a b c
+equal_is d o p a b c e = ap (λ (k : Sort). cond (is_equality k) (equated o a b c) (converted d o p a b c)) e
+
+unequal_is : (d : TyAt) (o : Op) (p : Place) (a b : Part) (c : Table) → (sort_of o ≡ equality → ⊥) → operated d o p a b c ≡ converted d o p a b c
+unequal_is d o p a b c n = ap (λ z. cond z (equated o a b c) (converted d o p a b c)) (unequal (sort_of o) n)
+
+tested_is : (d : TyAt) (o : Op) (p : Place) (a b : Part) (c : Table) (z : Bool) → is_dyn_sum o a.ty b.ty ≡ z → converted d o p a b c ≡ cond z (dyn_sum d p a b c) (int_operator d o p a b c)
+tested_is d o p a b c z e = ap (λ y. cond y (dyn_sum d p a b c) (int_operator d o p a b c)) e
+
+calculated_is : (d : TyAt) (o : Op) (p : Place) (u : Pair) → sort_of o ≡ arithmetic → on_integers d o p u ≡ calculated d o p u
+calculated_is d o p u e = ap (λ (k : Sort). cond (is_arithmetic k) (calculated d o p u) (compared o u)) e
+
+compared_is : (d : TyAt) (o : Op) (p : Place) (u : Pair) → sort_of o ≡ comparison → on_integers d o p u ≡ compared o u
+compared_is d o p u e = ap (λ (k : Sort). cond (is_arithmetic k) (calculated d o p u) (compared o u)) e
+
+-- ---- meets
 
 pub apart_so : (s t u : Ty) → s ≡ t → AreApart t u → AreApart s u
 apart_so s t u e h = subst (λ (z : Ty). AreApart z u) (sym e) h
@@ -90,30 +108,102 @@ module _ (names : Names) (ks : Known) (known : IsKnown names ks) where
   name_again : (w : Word) (t : Ty) (b : Table) → type_of_name names.values w.text ≡ Some t → Inserts (expr.local w) t b
   name_again w t b e = record { cast = _; is = ap (λ (o : Option Ty). read_name ks.dynamic o w b) (name_known names ks known w t e); type = refl }
 
+  -- ---- operators
+
+  -- insertion gives an expression that can be used at t
+  pub record InsertsAt (e : Expr) (t : Ty) (b : Table) : Type 0 where
+    pub source : Ty
+    pub part : Inserts e source b
+    pub meets : AreApart source t → ⊥
+
+  pub used_again : (e : Expr) (t : Ty) (b : Table) (h : InsertsAt e t b) → (z : Cast) × (used h.part.cast.part t h.part.cast.table ≡ Ok z)
+  used_again e t b h = used_unless h.part.cast.part t h.part.cast.table (unless_so h.part.cast.part.ty h.source t h.part.type h.meets)
+
+  -- two expressions that can each be used at u
+  record InsertsPair (x y : Expr) (s t u : Ty) (b : Table) : Type 0 where
+    pub first : Inserts x s b
+    pub second : Inserts y t first.cast.table
+    pub left : AreApart s u → ⊥
+    pub right : AreApart t u → ⊥
+
+  pair_used : (x y : Expr) (s t u : Ty) (b : Table) (h : InsertsPair x y s t u b) → (z : Pair) × (used_both u h.first.cast.part h.second.cast.part h.second.cast.table ≡ Ok z)
+  pair_used x y s t u b h =
+      let first = used_unless h.first.cast.part u h.second.cast.table (unless_so h.first.cast.part.ty s u h.first.type h.left) in
+      let second = used_unless h.second.cast.part u first.0.table (unless_so h.second.cast.part.ty t u h.second.type h.right) in
+      (_, then_is (used h.first.cast.part u h.second.cast.table) _ first.0 _ first.1 (then_is (used h.second.cast.part u first.0.table) _ second.0 _ second.1 refl))
+
+  -- what an operator gives where its parts are these
+  operator_at : (o : Op) (p : Place) (x y : Expr) (b : Table) (s t : Ty) (h : Inserts x s b) (k : Inserts y t h.cast.table) (r : Result Cast Refusal)
+      → operated ks.dynamic o p h.cast.part k.cast.part k.cast.table ≡ r → inserted ks (expr.binary o p x y) b ≡ r
+  operator_at o p x y b s t h k r e = then_is (inserted ks x b) _ h.cast _ h.is (then_is (inserted ks y h.cast.table) _ k.cast _ k.is e)
+
+  -- and where they are used at `int`
+  integers_at : (o : Op) (p : Place) (x y : Expr) (b : Table) (s t : Ty) (h : Inserts x s b) (k : Inserts y t h.cast.table) (r : Result Cast Refusal) → (sort_of o ≡ equality → ⊥)
+      → (o ≡ Add → s ≡ dyn → t ≡ dyn → ⊥) → int_operator ks.dynamic o p h.cast.part k.cast.part k.cast.table ≡ r → inserted ks (expr.binary o p x y) b ≡ r
+  integers_at o p x y b s t h k r n m e =
+      let other = no_dyn_sum o h.cast.part.ty k.cast.part.ty (λ a f g. m a (sym h.type ∙ f) (sym k.type ∙ g)) in
+      operator_at o p x y b s t h k r
+      (unequal_is ks.dynamic o p h.cast.part k.cast.part k.cast.table n ∙ tested_is ks.dynamic o p h.cast.part k.cast.part k.cast.table false other ∙ e)
+
   dyn_sum_again : (p : Place) (x y : Expr) (b : Table) (h : Inserts x dyn b) → Inserts y dyn h.cast.table → Inserts (expr.binary Add p x y) dyn b
   dyn_sum_again p x y b h k =
-      let both = and_from (is_dyn h.cast.part.ty) (is_dyn k.cast.part.ty) (is_dyn_of h.cast.part.ty h.type) (is_dyn_of k.cast.part.ty k.type) in
-      record { cast = _; is = then_is (inserted ks x b) _ h.cast _ h.is (then_is (inserted ks y h.cast.table) _ k.cast _ k.is (decided ks.dynamic p h.cast.part k.cast.part k.cast.table true both)); type = refl }
+      let both = dyn_sums h.cast.part.ty k.cast.part.ty h.type k.type in
+      record { cast = _; is = operator_at Add p x y b dyn dyn h k _ (tested_is ks.dynamic Add p h.cast.part k.cast.part k.cast.table true both); type = refl }
 
-  not_both : (s t u v : Ty) → s ≡ u → t ≡ v → (u ≡ dyn → v ≡ dyn → ⊥) → (is_dyn s && is_dyn t) ≡ false
-  not_both s t u v e f h =
-      false_from_ne_true (is_dyn s && is_dyn t) (λ b. let d = and_parts (is_dyn s) (is_dyn t) b in h (sym e ∙ is_dyn_is s d.0) (sym f ∙ is_dyn_is t d.1))
-
-  -- a sum that isn't of two parts of type `Dyn` is what the sum of integers gives
-  sum_is : (p : Place) (x y : Expr) (b : Table) (s t : Ty) (h : Inserts x s b) (k : Inserts y t h.cast.table) (r : Result Cast Refusal) → (s ≡ dyn → t ≡ dyn → ⊥)
-      → int_sum ks.dynamic p h.cast.part k.cast.part k.cast.table ≡ r → inserted ks (expr.binary Add p x y) b ≡ r
-  sum_is p x y b s t h k r n e =
-      then_is (inserted ks x b) _ h.cast _ h.is (then_is (inserted ks y h.cast.table) _ k.cast _ k.is
-      (decided ks.dynamic p h.cast.part k.cast.part k.cast.table false (not_both h.cast.part.ty k.cast.part.ty s t h.type k.type n) ∙ e))
-
-  int_sum_again : (p : Place) (x y : Expr) (b : Table) (s t : Ty) (h : Inserts x s b) (k : Inserts y t h.cast.table) → (s ≡ dyn → t ≡ dyn → ⊥) → (AreApart s int → ⊥) → (AreApart t int → ⊥)
-      → Inserts (expr.binary Add p x y) int b
-  int_sum_again p x y b s t h k n i j =
-      let first = used_unless h.cast.part int k.cast.table (unless_so h.cast.part.ty s int h.type i) in
-      let second = used_unless k.cast.part int first.0.table (unless_so k.cast.part.ty t int k.type j) in
+  arithmetic_again : (o : Op) (p : Place) (x y : Expr) (b : Table) (s t : Ty) → sort_of o ≡ arithmetic → (o ≡ Add → s ≡ dyn → t ≡ dyn → ⊥) → InsertsPair x y s t int b → Inserts (expr.binary o p x y) int b
+  arithmetic_again o p x y b s t e n h =
+      let z = pair_used x y s t int b h in
       record {
         cast = _;
-        is = sum_is p x y b s t h k _ n (then_is (used h.cast.part int k.cast.table) _ first.0 _ first.1 (then_is (used k.cast.part int first.0.table) _ second.0 _ second.1 refl));
+        is =
+            integers_at o p x y b s t h.first h.second _ (not_equality_of arithmetic (sort_of o) e refl) n
+            (then_is (used_both int h.first.cast.part h.second.cast.part h.second.cast.table) _ z.0 _ z.1 (calculated_is ks.dynamic o p z.0 e));
+        type = refl;
+      }
+
+  comparison_again : (o : Op) (p : Place) (x y : Expr) (b : Table) (s t : Ty) → sort_of o ≡ comparison → InsertsPair x y s t int b → Inserts (expr.binary o p x y) bool b
+  comparison_again o p x y b s t e h =
+      let z = pair_used x y s t int b h in
+      record {
+        cast = _;
+        is =
+            integers_at o p x y b s t h.first h.second _ (not_equality_of comparison (sort_of o) e refl) (λ a. absurd (no_sum o e a))
+            (then_is (used_both int h.first.cast.part h.second.cast.part h.second.cast.table) _ z.0 _ z.1 (compared_is ks.dynamic o p z.0 e));
+        type = refl;
+      }
+
+  equality_again : (o : Op) (p : Place) (x y : Expr) (b : Table) (s t : Ty) (h : Inserts x s b) → Inserts y t h.cast.table → sort_of o ≡ equality → Inserts (expr.binary o p x y) bool b
+  equality_again o p x y b s t h k e = record { cast = _; is = operator_at o p x y b s t h k _ (equal_is ks.dynamic o p h.cast.part k.cast.part k.cast.table e); type = refl }
+
+  neg_again : (p : Place) (x : Expr) (b : Table) → InsertsAt x int b → Inserts (expr.neg p x) int b
+  neg_again p x b h =
+      let z = used_again x int b h in
+      record { cast = _; is = then_is (inserted ks x b) _ h.part.cast _ h.part.is (then_is (used h.part.cast.part int h.part.cast.table) _ z.0 _ z.1 refl); type = refl }
+
+  not_again : (p : Place) (x : Expr) (b : Table) → InsertsAt x bool b → Inserts (expr.negation p x) bool b
+  not_again p x b h =
+      let z = used_again x bool b h in
+      record { cast = _; is = then_is (inserted ks x b) _ h.part.cast _ h.part.is (then_is (used h.part.cast.part bool h.part.cast.table) _ z.0 _ z.1 refl); type = refl }
+
+  both_again : (x y : Expr) (b : Table) (s t : Ty) → InsertsPair x y s t bool b → Inserts (expr.both x y) bool b
+  both_again x y b s t h =
+      let z = pair_used x y s t bool b h in
+      record {
+        cast = _;
+        is =
+            then_is (inserted ks x b) _ h.first.cast _ h.first.is (then_is (inserted ks y h.first.cast.table) _ h.second.cast _ h.second.is
+            (then_is (used_both bool h.first.cast.part h.second.cast.part h.second.cast.table) _ z.0 _ z.1 refl));
+        type = refl;
+      }
+
+  either_again : (x y : Expr) (b : Table) (s t : Ty) → InsertsPair x y s t bool b → Inserts (expr.either x y) bool b
+  either_again x y b s t h =
+      let z = pair_used x y s t bool b h in
+      record {
+        cast = _;
+        is =
+            then_is (inserted ks x b) _ h.first.cast _ h.first.is (then_is (inserted ks y h.first.cast.table) _ h.second.cast _ h.second.is
+            (then_is (used_both bool h.first.cast.part h.second.cast.part h.second.cast.table) _ z.0 _ z.1 refl));
         type = refl;
       }
 
@@ -205,13 +295,23 @@ module _ (names : Names) (ks : Known) (known : IsKnown names ks) where
       again of_nil b = record { cast = _; is = refl; type = refl }
       again (of_name {w = w} {t = t} n x) b = name_again w t b n
       again (of_dyn_sum {p = p} {a = x} {b = y} f g i j) b = let h = again f b in dyn_sum_again p x y b h (again g h.cast.table)
-      again (of_int_sum {p = p} {a = x} {b = y} {s = s} {t = t} f g n i j k) b =
-          let h = again f b in
-          int_sum_again p x y b s t h (again g h.cast.table) n (uses_not_apart i) (uses_not_apart j)
+      again (of_arithmetic {o = o} {p = p} {a = x} {b = y} {s = s} {t = t} e n f i) b = arithmetic_again o p x y b s t e n (pair_again f b)
+      again (of_comparison {o = o} {p = p} {a = x} {b = y} {s = s} {t = t} e f) b = comparison_again o p x y b s t e (pair_again f b)
+      again (of_equality {o = o} {p = p} {a = x} {b = y} {s = s} {t = t} e f g) b = let h = again f b in equality_again o p x y b s t h (again g h.cast.table) e
+      again (of_neg {p = p} {a = x} f i) b = neg_again p x b (at_again f b)
+      again (of_not {p = p} {a = x} f) b = not_again p x b (at_again f b)
+      again (of_both {a = x} {b = y} {s = s} {t = t} f) b = both_again x y b s t (pair_again f b)
+      again (of_either {a = x} {b = y} {s = s} {t = t} f) b = either_again x y b s t (pair_again f b)
       again (of_dyn_read {a = x} {w = w} f i) b = dyn_read_again x w b (again f b)
       again (of_read {a = x} {w = w} {fs = fs} {t = t} f i) b = read_again x w b fs t (again f b) i
       again (of_cast {p = p} {a = a} {e = x} {s = s} {t = t} {m = m} f w i j) b = cast_again p a x b s t m (again f b) (written_found names.classes ks.annotations known.annotations w) i
       again (of_new {p = p} {w = w} {es = es} {n = n} {fs = fs} {t = t} {ts = ts} c d e f g) b = new_again p w es b ts n fs t (all_again f [] b) (class_again w n fs c d) (uses_meet g) e
+
+      pub at_again : {ss us : List Site} {e : Expr} {t : Ty} {c : CastExpr} → ElaboratesAt types names ss e t c us → (b : Table) → InsertsAt e t b
+      at_again (used_at {s = s} f i) b = record { source = s; part = again f b; meets = uses_not_apart i }
+
+      pair_again : {ss us : List Site} {x y : Expr} {s t u : Ty} {c d : CastExpr} → ElaboratesPair types names ss x y s t u c d us → (b : Table) → InsertsPair x y s t u b
+      pair_again (used_pair f g i j) b = let h = again f b in record { first = h; second = again g h.cast.table; left = uses_not_apart i; right = uses_not_apart j }
 
       pub all_again : {ss us : List Site} {es : Exprs} {ts : List Ty} {cs : CastExprs} → ElaborateAll types names ss es ts cs us → (done : List Part) (b : Table) → InsertsAll done es ts b
       all_again of_none done b = record { parts = _; is = refl; more = []; all = sym (append-nil done); types = refl }
@@ -228,20 +328,61 @@ module _ (names : Names) (ks : Known) (known : IsKnown names ks) where
 
     -- ---- refusals
 
-    first_again : (p : Place) (x y : Expr) (b : Table) (s t : Ty) (h : Inserts x s b) → Inserts y t h.cast.table → AreApart s int → inserted ks (expr.binary Add p x y) b ≡ Err (at (place_of x) Inconsistent)
-    first_again p x y b s t h k n =
-        sum_is p x y b s t h k _ (not_dyn_apart s t int n)
-        (then_stops (used h.cast.part int k.cast.table) _ (at (place_of x) Inconsistent)
-        (refused_so h.cast.part.place (place_of x) _ (inserted_ok names ks known x b h.cast h.is).place (used_apart h.cast.part int k.cast.table (apart_so h.cast.part.ty s int h.type n))))
+    -- an expression stops insertion, or its use at t does
+    pub data StopsAt (e : Expr) (t : Ty) (b : Table) (r : Refusal) : Type 0 where
+      part_stops : inserted ks e b ≡ Err r → StopsAt e t b r
+      use_stops : (h : Cast) → inserted ks e b ≡ Ok h → used h.part t h.table ≡ Err r → StopsAt e t b r
 
-    second_again : (p : Place) (x y : Expr) (b : Table) (s t m : Ty) (h : Inserts x s b) → Inserts y t h.cast.table → IsMeet m s int → AreApart t int
-        → inserted ks (expr.binary Add p x y) b ≡ Err (at (place_of y) Inconsistent)
-    second_again p x y b s t m h k i n =
-        let first = used_unless h.cast.part int k.cast.table (unless_so h.cast.part.ty s int h.type (meet_not_apart m s int i)) in
-        sum_is p x y b s t h k _ (λ f g. not_dyn_apart t s int n g f)
-        (then_is (used h.cast.part int k.cast.table) _ first.0 _ first.1
-        (then_stops (used k.cast.part int first.0.table) _ (at (place_of y) Inconsistent)
-        (refused_so k.cast.part.place (place_of y) _ (inserted_ok names ks known y h.cast.table k.cast k.is).place (used_apart k.cast.part int first.0.table (apart_so k.cast.part.ty t int k.type n)))))
+    use_fault_at : (e : Expr) (s t : Ty) (b : Table) → Inserts e s b → AreApart s t → StopsAt e t b (at (place_of e) Inconsistent)
+    use_fault_at e s t b h n =
+        use_stops h.cast h.is
+        (refused_so h.cast.part.place (place_of e) _ (inserted_ok names ks known e b h.cast h.is).place (used_apart h.cast.part t h.cast.table (apart_so h.cast.part.ty s t h.type n)))
+
+    neg_stops : (p : Place) (x : Expr) (b : Table) (r : Refusal) → StopsAt x int b r → inserted ks (expr.neg p x) b ≡ Err r
+    neg_stops p x b r (part_stops e) = then_stops (inserted ks x b) _ r e
+    neg_stops p x b r (use_stops h e f) = then_is (inserted ks x b) _ h _ e (then_stops (used h.part int h.table) _ r f)
+
+    not_stops : (p : Place) (x : Expr) (b : Table) (r : Refusal) → StopsAt x bool b r → inserted ks (expr.negation p x) b ≡ Err r
+    not_stops p x b r (part_stops e) = then_stops (inserted ks x b) _ r e
+    not_stops p x b r (use_stops h e f) = then_is (inserted ks x b) _ h _ e (then_stops (used h.part bool h.table) _ r f)
+
+    -- the first of two expressions stops insertion, or the second does, or one of their uses at u
+    data PairStops (x y : Expr) (u : Ty) (b : Table) (r : Refusal) : Type 0 where
+      first_stops : inserted ks x b ≡ Err r → PairStops x y u b r
+      second_stops : (h : Cast) → inserted ks x b ≡ Ok h → inserted ks y h.table ≡ Err r → PairStops x y u b r
+      uses_stop : (s t : Ty) (h : Inserts x s b) (k : Inserts y t h.cast.table) → (s ≡ dyn → t ≡ dyn → ⊥) → used_both u h.cast.part k.cast.part k.cast.table ≡ Err r → PairStops x y u b r
+
+    first_again : (x y : Expr) (b : Table) (s t u : Ty) (h : Inserts x s b) → Inserts y t h.cast.table → AreApart s u → PairStops x y u b (at (place_of x) Inconsistent)
+    first_again x y b s t u h k n =
+        uses_stop s t h k (not_dyn_apart s t u n)
+        (then_stops (used h.cast.part u k.cast.table) _ (at (place_of x) Inconsistent)
+        (refused_so h.cast.part.place (place_of x) _ (inserted_ok names ks known x b h.cast h.is).place (used_apart h.cast.part u k.cast.table (apart_so h.cast.part.ty s u h.type n))))
+
+    second_again : (x y : Expr) (b : Table) (s t u m : Ty) (h : Inserts x s b) → Inserts y t h.cast.table → IsMeet m s u → AreApart t u → PairStops x y u b (at (place_of y) Inconsistent)
+    second_again x y b s t u m h k i n =
+        let first = used_unless h.cast.part u k.cast.table (unless_so h.cast.part.ty s u h.type (meet_not_apart m s u i)) in
+        uses_stop s t h k (λ f g. not_dyn_apart t s u n g f)
+        (then_is (used h.cast.part u k.cast.table) _ first.0 _ first.1
+        (then_stops (used k.cast.part u first.0.table) _ (at (place_of y) Inconsistent)
+        (refused_so k.cast.part.place (place_of y) _ (inserted_ok names ks known y h.cast.table k.cast k.is).place (used_apart k.cast.part u first.0.table (apart_so k.cast.part.ty t u k.type n)))))
+
+    integers_stop : (o : Op) (p : Place) (x y : Expr) (b : Table) (r : Refusal) → (sort_of o ≡ equality → ⊥) → PairStops x y int b r → inserted ks (expr.binary o p x y) b ≡ Err r
+    integers_stop o p x y b r n (first_stops e) = then_stops (inserted ks x b) _ r e
+    integers_stop o p x y b r n (second_stops h e f) = then_is (inserted ks x b) _ h _ e (then_stops (inserted ks y h.table) _ r f)
+    integers_stop o p x y b r n (uses_stop s t h k m e) =
+        integers_at o p x y b s t h k _ n (λ a. m) (then_stops (used_both int h.cast.part k.cast.part k.cast.table) _ r e)
+
+    both_stop : (x y : Expr) (b : Table) (r : Refusal) → PairStops x y bool b r → inserted ks (expr.both x y) b ≡ Err r
+    both_stop x y b r (first_stops e) = then_stops (inserted ks x b) _ r e
+    both_stop x y b r (second_stops h e f) = then_is (inserted ks x b) _ h _ e (then_stops (inserted ks y h.table) _ r f)
+    both_stop x y b r (uses_stop s t h k m e) =
+        then_is (inserted ks x b) _ h.cast _ h.is (then_is (inserted ks y h.cast.table) _ k.cast _ k.is (then_stops (used_both bool h.cast.part k.cast.part k.cast.table) _ r e))
+
+    either_stop : (x y : Expr) (b : Table) (r : Refusal) → PairStops x y bool b r → inserted ks (expr.either x y) b ≡ Err r
+    either_stop x y b r (first_stops e) = then_stops (inserted ks x b) _ r e
+    either_stop x y b r (second_stops h e f) = then_is (inserted ks x b) _ h _ e (then_stops (inserted ks y h.table) _ r f)
+    either_stop x y b r (uses_stop s t h k m e) =
+        then_is (inserted ks x b) _ h.cast _ h.is (then_is (inserted ks y h.cast.table) _ k.cast _ k.is (then_stops (used_both bool h.cast.part k.cast.part k.cast.table) _ r e))
 
     -- no such member is refused
     no_member : (d : _) (s : Ty) (c : CastExpr) (p : Place) (w : Word) (b : Table) → member_type s w.text ≡ None → read_member d s c p w b ≡ Err (at w.place NoField)
@@ -282,12 +423,15 @@ module _ (names : Names) (ks : Known) (known : IsKnown names ks) where
 
     mutual
       pub fault_again : {e : Expr} {r : Refusal} → TypingFault types names e r → (b : Table) → inserted ks e b ≡ Err r
-      fault_again (in_first {r = r} {a = x} f) b = then_stops (inserted ks x b) _ r (fault_again f b)
-      fault_again (in_second {r = r} {a = x} {b = y} f g) b =
+      fault_again (in_integers {o = o} {p = p} {r = r} {a = x} {b = y} n f) b = integers_stop o p x y b r n (pair_fault_again f b)
+      fault_again (in_left {r = r} {a = x} e f) b = then_stops (inserted ks x b) _ r (fault_again f b)
+      fault_again (in_right {r = r} {a = x} {b = y} e f g) b =
           let h = again f b in
           then_is (inserted ks x b) _ h.cast _ h.is (then_stops (inserted ks y h.cast.table) _ r (fault_again g h.cast.table))
-      fault_again (at_first {p = p} {a = x} {b = y} {s = s} {t = t} f g n) b = let h = again f b in first_again p x y b s t h (again g h.cast.table) n
-      fault_again (at_second {p = p} {a = x} {b = y} {s = s} {t = t} {m = m} f g i n) b = let h = again f b in second_again p x y b s t m h (again g h.cast.table) i n
+      fault_again (in_neg {p = p} {r = r} {a = x} f) b = neg_stops p x b r (at_fault_again f b)
+      fault_again (in_not {p = p} {r = r} {a = x} f) b = not_stops p x b r (at_fault_again f b)
+      fault_again (in_both {r = r} {a = x} {b = y} f) b = both_stop x y b r (pair_fault_again f b)
+      fault_again (in_either {r = r} {a = x} {b = y} f) b = either_stop x y b r (pair_fault_again f b)
       fault_again (in_object {r = r} {a = x} f) b = then_stops (inserted ks x b) _ r (fault_again f b)
       fault_again (no_field {a = x} {w = w} {s = s} f n) b = let h = again f b in read_at x w b s h _ (no_member ks.dynamic s h.cast.part.expr h.cast.part.place w h.cast.table n)
       fault_again (in_cast {r = r} {e = x} f) b = then_stops (inserted ks x b) _ r (fault_again f b)
@@ -295,6 +439,16 @@ module _ (names : Names) (ks : Known) (known : IsKnown names ks) where
       fault_again (in_argument {r = r} {es = es} f) b = then_stops (inserted_all ks [] es b) _ r (all_fault_again f [] b)
       fault_again (arity {p = p} {w = w} {es = es} {n = n} {fs = fs} {ts = ts} c d f i) b = count_fault p w es b ts n fs (all_again f [] b) (class_again w n fs c d) i
       fault_again (at_argument {p = p} {q = q} {w = w} {es = es} {n = n} {fs = fs} {ts = ts} c d f i g) b = use_fault p q w es b ts n fs (all_again f [] b) (class_again w n fs c d) i g
+
+      pub at_fault_again : {e : Expr} {t : Ty} {r : Refusal} → FaultAt types names e t r → (b : Table) → StopsAt e t b r
+      at_fault_again (in_used f) b = part_stops (fault_again f b)
+      at_fault_again (at_used {e = e} {s = s} {t = t} f n) b = use_fault_at e s t b (again f b) n
+
+      pair_fault_again : {x y : Expr} {u : Ty} {r : Refusal} → PairFault types names x y u r → (b : Table) → PairStops x y u b r
+      pair_fault_again (in_first f) b = first_stops (fault_again f b)
+      pair_fault_again (in_second f g) b = let h = again f b in second_stops h.cast h.is (fault_again g h.cast.table)
+      pair_fault_again (at_first {a = x} {b = y} {s = s} {t = t} {u = u} f g n) b = let h = again f b in first_again x y b s t u h (again g h.cast.table) n
+      pair_fault_again (at_second {a = x} {b = y} {s = s} {t = t} {u = u} {m = m} f g i n) b = let h = again f b in second_again x y b s t u m h (again g h.cast.table) i n
 
       pub all_fault_again : {es : Exprs} {r : Refusal} → FaultIn types names es r → (done : List Part) (b : Table) → inserted_all ks done es b ≡ Err r
       all_fault_again (in_head {r = r} {e = x} f) done b = then_stops (inserted ks x b) _ r (fault_again f b)

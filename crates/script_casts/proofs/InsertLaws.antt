@@ -1,10 +1,11 @@
 -- What insertion gives is what typing with casts says.
-use Rattle.std.proofs.Common.{◌≡◌, ℕ, inl, inr, true, false, cond, ◌&&◌, List, [], ◌∷◌, ◌++◌, length, Result, Ok, Err, refl, sym, ◌∙◌, ap, subst, append_assoc}
+use Rattle.std.proofs.Common.{◌≡◌, ℕ, false, cond, List, [], ◌∷◌, ◌++◌, length, Result, Ok, Err, refl, sym, ◌∙◌, ap, subst, append_assoc}
 use Rattle.std.specs.Prelude.{Option, Some, None, map, slice_get, nat_eq}
-use Rattle.std.proofs.lemmas.Bool.{and_parts, and_cases, eqb-true}
+use Rattle.std.proofs.lemmas.Bool.{eqb-true}
 use Rattle.std.proofs.lemmas.List.{length-append, append-nil}
 use Rattle.mono_list.proofs.Cases.{split}
 use Rattle.mono_syntax.specs.declared.leaf.Kind.TheVariants as kind
+use Rattle.mono_syntax.specs.declared.leaf.Op.{Op}
 use Rattle.mono_syntax.specs.declared.leaf.Op.TheVariants.{Add}
 use Rattle.mono_syntax.specs.declared.leaf.Place.{Place}
 use Rattle.mono_syntax.specs.declared.leaf.Site.{Site}
@@ -20,8 +21,9 @@ use Rattle.mono_syntax.specs.CastExpr as cast
 use Rattle.mono_syntax.specs.CastExprView.{cast_exprs}
 use Rattle.mono_syntax.specs.Ty.{Ty, dyn, int, bool, str, nil, fun, obj, Fields}
 use Rattle.mono_tree.specs.WellTyped.{type_of_name}
-use Rattle.typing_rules.specs.Elaborates.{IsSiteFor, Uses, Elaborates, of_number, of_text, of_truth, of_nil, of_name, of_dyn_sum, of_int_sum, of_dyn_read, of_read, of_cast, of_new, ElaborateAll, of_none, of_more}
+use Rattle.typing_rules.specs.Elaborates.{IsSiteFor, Uses, Elaborates, of_number, of_text, of_truth, of_nil, of_name, of_dyn_sum, of_arithmetic, of_comparison, of_equality, of_neg, of_not, of_both, of_either, of_dyn_read, of_read, of_cast, of_new, ElaboratesAt, used_at, ElaboratesPair, used_pair, ElaborateAll, of_none, of_more}
 use Rattle.typing_rules.specs.Members.{Names, Numbered, class_at, field_type}
+use Rattle.typing_rules.specs.Operators.{arithmetic, comparison, equality, sort_of}
 use Rattle.typing_rules.specs.SourcePlaces.{place_of}
 use Rattle.typing_rules.specs.TypingFaults.{at}
 use Rattle.script_casts.specs.declared.known.Known.{Known}
@@ -29,15 +31,17 @@ use Rattle.script_casts.specs.declared.known.KnownClass.{KnownClass}
 use Rattle.script_casts.specs.declared.objects.Arguments.{Arguments}
 use Rattle.script_casts.specs.declared.objects.Parts.{Parts}
 use Rattle.script_casts.specs.declared.sites.Cast.{Cast}
+use Rattle.script_casts.specs.declared.sites.Pair.{Pair}
 use Rattle.script_casts.specs.declared.sites.Part.{Part}
 use Rattle.script_casts.specs.declared.sites.Table.{Table}
 use Rattle.script_casts.specs.Annotations.{written}
 use Rattle.script_casts.specs.KnownNames.{known_class}
-use Rattle.script_casts.specs.TypeList.{is_dyn}
-use Rattle.script_casts.specs.Inserted.{and_then, plain, used, cast_to, read_name, int_operator, int_sum, dyn_sum, summed, read_typed, read_member, used_from, object_of, called, inserted, inserted_all}
+use Rattle.script_casts.specs.OperatorTests.{is_equality, is_arithmetic, is_dyn_sum}
+use Rattle.script_casts.specs.Inserted.{and_then, plain, used, cast_to, read_name, used_both, calculated, compared, on_integers, int_operator, dyn_sum, converted, equated, operated, negated, denied, conjoined, disjoined, read_typed, read_member, used_from, object_of, called, inserted, inserted_all}
 use Rattle.script_casts.specs.Lines.{expr_of_part}
 use Rattle.script_casts.proofs.AnnotationLaws.{found_writes}
 use Rattle.script_casts.proofs.Classes.{IsKnownClass, IsKnown, SameClass, same_class}
+use Rattle.script_casts.proofs.OperatorTests.{equality_is, not_equality, arithmetic_is, comparison_is, dyn_sum_is, not_dyn_sum}
 use Rattle.script_casts.proofs.PartLaws.{type_of_part, AreAt, all_used_ok}
 use Rattle.script_casts.proofs.SiteLaws.{plain_site, fitted_ok, used_ok}
 use Rattle.script_casts.proofs.Steps.{ok_is, err_ok, then_ok}
@@ -50,17 +54,6 @@ pub record Within (d : TyAt) (ts us : List Ty) : Type 0 where
 
 pub within_before : (d : TyAt) (ts us vs : List Ty) → Grows ts us → Within d us vs → Within d ts vs
 within_before d ts us vs g w = record { keeps = λ k t e. w.keeps k t (g.keeps k t e); dynamic = w.dynamic }
-
-pub is_dyn_is : (t : Ty) → is_dyn t ≡ true → t ≡ dyn
-is_dyn_is dyn h = refl
-is_dyn_is _ h = absurd cc
-
-pub not_dyn : (t : Ty) → is_dyn t ≡ false → t ≡ dyn → ⊥
-not_dyn dyn h e = absurd cc
-not_dyn _ h e = cc
-
-pub not_both_dyn : (s t : Ty) → (is_dyn s && is_dyn t) ≡ false → s ≡ dyn → t ≡ dyn → ⊥
-not_both_dyn s t e h k = elim (and_cases (is_dyn s) (is_dyn t) e) [ inl f ↦ not_dyn s f h | inr f ↦ not_dyn t f k ]
 
 module _ (names : Names) (ks : Known) (known : IsKnown names ks) where
   -- x is e with its casts, behind the sites of b
@@ -89,59 +82,142 @@ module _ (names : Names) (ks : Known) (known : IsKnown names ks) where
       inserted_so (expr.local w) b _ x e
       (record { place = refl; grows = stays b.types; elaborates = λ types h. of_name there (plain_site types w.place kind.Name ks.dynamic h.dynamic) })
 
-  -- ---- sums
-
-  abbrev Sum : Place → Expr → Expr → Expr
-  Sum p a b = expr.binary Add p a b
+  -- ---- uses
 
   uses_at : (a : Expr) (b c : Table) (t : Ty) (u x : Cast) → IsInserted a b u → used u.part t c ≡ Ok x → (types : List Ty) → Keeps x.table.types types
       → Uses types c.sites (place_of a) u.part.ty u.part.expr t x.part.expr x.table.sites
   uses_at a b c t u x h e types k =
       subst (λ (p : Place). Uses types c.sites p u.part.ty u.part.expr t x.part.expr x.table.sites) h.place ((used_ok u.part t c x e).uses types k)
 
-  dyn_sum_ok : (p : Place) (a b : Expr) (c : Table) (u v x : Cast) → IsInserted a c u → IsInserted b u.table v → is_dyn u.part.ty ≡ true → is_dyn v.part.ty ≡ true
-      → dyn_sum ks.dynamic p u.part v.part v.table ≡ Ok x → IsInserted (Sum p a b) c x
-  dyn_sum_ok p a b c u v x h k i j e =
-      inserted_so (Sum p a b) c _ x e
-      (record {
-        place = h.place;
-        grows = grows_on c.types u.table.types v.table.types h.grows k.grows;
+  -- x is e used at t, behind the sites of b
+  pub record IsInsertedAt (e : Expr) (t : Ty) (b : Table) (x : Cast) : Type 0 where
+    pub grows : Grows b.types x.table.types
+    pub elaborates : (types : List Ty) → Within ks.dynamic x.table.types types → ElaboratesAt types names b.sites e t x.part.expr x.table.sites
+
+  pub at_ok : (a : Expr) (t : Ty) (b : Table) (u x : Cast) → IsInserted a b u → used u.part t u.table ≡ Ok x → IsInsertedAt a t b x
+  at_ok a t b u x h e =
+      let i = used_ok u.part t u.table x e in
+      record {
+        grows = grows_on b.types u.table.types x.table.types h.grows i.grows;
         elaborates =
             λ types w.
-            let left = subst (λ (t : Ty). Elaborates types names c.sites a t u.part.expr u.table.sites) (is_dyn_is u.part.ty i) (h.elaborates types (within_before ks.dynamic u.table.types v.table.types types k.grows w)) in
-            let right = subst (λ (t : Ty). Elaborates types names u.table.sites b t v.part.expr v.table.sites) (is_dyn_is v.part.ty j) (k.elaborates types w) in
-            rw (length-append, append_assoc)
-            (of_dyn_sum left right (plain_site types p kind.Operator ks.dynamic w.dynamic) (plain_site types p kind.Arithmetic ks.dynamic w.dynamic));
-      })
+            used_at (h.elaborates types (within_before ks.dynamic u.table.types x.table.types types i.grows w)) (uses_at a b u.table t u x h e types w.keeps);
+      }
 
-  int_sum_ok : (p : Place) (a b : Expr) (c : Table) (u v x : Cast) → IsInserted a c u → IsInserted b u.table v → (is_dyn u.part.ty && is_dyn v.part.ty) ≡ false
-      → int_sum ks.dynamic p u.part v.part v.table ≡ Ok x → IsInserted (Sum p a b) c x
-  int_sum_ok p a b c u v x h k n e =
-      let first = then_ok (used u.part int v.table) (λ (y : Cast). and_then (used v.part int y.table) (λ z. int_operator ks.dynamic p y.part z.part z.table)) x e in
-      let second = then_ok (used v.part int first.0.table) (λ (z : Cast). int_operator ks.dynamic p first.0.part z.part z.table) x first.2 in
-      let left = used_ok u.part int v.table first.0 first.1 in
-      let right = used_ok v.part int first.0.table second.0 second.1 in
+  -- two expressions used at t
+  record IsPair (a b : Expr) (s t u : Ty) (c : Table) (x : Pair) : Type 0 where
+    pub place : x.first.place ≡ place_of a
+    pub grows : Grows c.types x.table.types
+    pub elaborates : (types : List Ty) → Within ks.dynamic x.table.types types → ElaboratesPair types names c.sites a b s t u x.first.expr x.second.expr x.table.sites
+
+  pair_ok : (a b : Expr) (t : Ty) (c : Table) (u v : Cast) (x : Pair) → IsInserted a c u → IsInserted b u.table v → used_both t u.part v.part v.table ≡ Ok x → IsPair a b u.part.ty v.part.ty t c x
+  pair_ok a b t c u v x h k e =
+      let first = then_ok (used u.part t v.table) (λ (y : Cast). and_then (used v.part t y.table) (λ z. Ok (record { first = y.part; second = z.part; table = z.table }))) x e in
+      let second = then_ok (used v.part t first.0.table) (λ (z : Cast). Ok (record { first = first.0.part; second = z.part; table = z.table })) x first.2 in
+      let left = used_ok u.part t v.table first.0 first.1 in
+      let right = used_ok v.part t first.0.table second.0 second.1 in
       let after_left = grows_on v.table.types first.0.table.types second.0.table.types left.grows right.grows in
       let after_right = grows_on u.table.types v.table.types second.0.table.types k.grows after_left in
-      inserted_so (Sum p a b) c _ x second.2
+      subst (λ (z : Pair). IsPair a b u.part.ty v.part.ty t c z) (ok_is second.2)
       (record {
         place = left.place ∙ h.place;
         grows = grows_on c.types u.table.types second.0.table.types h.grows after_right;
         elaborates =
             λ types w.
-            of_int_sum (h.elaborates types (within_before ks.dynamic u.table.types second.0.table.types types after_right w))
+            used_pair (h.elaborates types (within_before ks.dynamic u.table.types second.0.table.types types after_right w))
             (k.elaborates types (within_before ks.dynamic v.table.types second.0.table.types types after_left w))
-            (not_both_dyn u.part.ty v.part.ty n)
-            (uses_at a c v.table int u first.0 h first.1 types (within_before ks.dynamic first.0.table.types second.0.table.types types right.grows w).keeps)
-            (uses_at b u.table first.0.table int v second.0 k second.1 types w.keeps)
-            (plain_site types p kind.Arithmetic ks.dynamic w.dynamic);
+            (uses_at a c v.table t u first.0 h first.1 types (within_before ks.dynamic first.0.table.types second.0.table.types types right.grows w).keeps)
+            (uses_at b u.table first.0.table t v second.0 k second.1 types w.keeps);
       })
 
-  sum_ok : (p : Place) (a b : Expr) (c : Table) (u v x : Cast) → IsInserted a c u → IsInserted b u.table v → summed ks.dynamic p u.part v.part v.table ≡ Ok x → IsInserted (Sum p a b) c x
-  sum_ok p a b c u v x h k =
-      split (is_dyn u.part.ty && is_dyn v.part.ty) (λ z. cond z (dyn_sum ks.dynamic p u.part v.part v.table) (int_sum ks.dynamic p u.part v.part v.table) ≡ Ok x → IsInserted (Sum p a b) c x)
-      (λ y. let d = and_parts (is_dyn u.part.ty) (is_dyn v.part.ty) y in dyn_sum_ok p a b c u v x h k d.0 d.1)
-      (λ n. int_sum_ok p a b c u v x h k n)
+  -- ---- operators
+
+  dyn_sum_ok : (p : Place) (a b : Expr) (c : Table) (u v x : Cast) → IsInserted a c u → IsInserted b u.table v → u.part.ty ≡ dyn → v.part.ty ≡ dyn
+      → dyn_sum ks.dynamic p u.part v.part v.table ≡ Ok x → IsInserted (expr.binary Add p a b) c x
+  dyn_sum_ok p a b c u v x h k i j e =
+      inserted_so (expr.binary Add p a b) c _ x e
+      (record {
+        place = h.place;
+        grows = grows_on c.types u.table.types v.table.types h.grows k.grows;
+        elaborates =
+            λ types w.
+            let left = subst (λ (t : Ty). Elaborates types names c.sites a t u.part.expr u.table.sites) i (h.elaborates types (within_before ks.dynamic u.table.types v.table.types types k.grows w)) in
+            let right = subst (λ (t : Ty). Elaborates types names u.table.sites b t v.part.expr v.table.sites) j (k.elaborates types w) in
+            rw (length-append, append_assoc)
+            (of_dyn_sum left right (plain_site types p kind.Operator ks.dynamic w.dynamic) (plain_site types p kind.Arithmetic ks.dynamic w.dynamic));
+      })
+
+  calculated_ok : (o : Op) (p : Place) (a b : Expr) (s t : Ty) (c : Table) (u : Pair) (x : Cast) → sort_of o ≡ arithmetic → (o ≡ Add → s ≡ dyn → t ≡ dyn → ⊥) → IsPair a b s t int c u
+      → calculated ks.dynamic o p u ≡ Ok x → IsInserted (expr.binary o p a b) c x
+  calculated_ok o p a b s t c u x k n h e =
+      inserted_so (expr.binary o p a b) c _ x e
+      (record { place = h.place; grows = h.grows; elaborates = λ types w. of_arithmetic k n (h.elaborates types w) (plain_site types p kind.Arithmetic ks.dynamic w.dynamic) })
+
+  compared_ok : (o : Op) (p : Place) (a b : Expr) (s t : Ty) (c : Table) (u : Pair) (x : Cast) → sort_of o ≡ comparison → IsPair a b s t int c u → compared o u ≡ Ok x → IsInserted (expr.binary o p a b) c x
+  compared_ok o p a b s t c u x k h e =
+      inserted_so (expr.binary o p a b) c _ x e (record { place = h.place; grows = h.grows; elaborates = λ types w. of_comparison k (h.elaborates types w) })
+
+  integers_ok : (o : Op) (p : Place) (a b : Expr) (s t : Ty) (c : Table) (u : Pair) (x : Cast) → (sort_of o ≡ equality → ⊥) → (o ≡ Add → s ≡ dyn → t ≡ dyn → ⊥) → IsPair a b s t int c u
+      → on_integers ks.dynamic o p u ≡ Ok x → IsInserted (expr.binary o p a b) c x
+  integers_ok o p a b s t c u x k n h =
+      split (is_arithmetic (sort_of o)) (λ z. cond z (calculated ks.dynamic o p u) (compared o u) ≡ Ok x → IsInserted (expr.binary o p a b) c x)
+      (λ y. calculated_ok o p a b s t c u x (arithmetic_is (sort_of o) y) n h)
+      (λ m. compared_ok o p a b s t c u x (comparison_is (sort_of o) k m) h)
+
+  int_operator_ok : (o : Op) (p : Place) (a b : Expr) (c : Table) (u v x : Cast) → IsInserted a c u → IsInserted b u.table v → (sort_of o ≡ equality → ⊥)
+      → is_dyn_sum o u.part.ty v.part.ty ≡ false → int_operator ks.dynamic o p u.part v.part v.table ≡ Ok x → IsInserted (expr.binary o p a b) c x
+  int_operator_ok o p a b c u v x h k n m e =
+      let y = then_ok (used_both int u.part v.part v.table) (λ (z : Pair). on_integers ks.dynamic o p z) x e in
+      integers_ok o p a b u.part.ty v.part.ty c y.0 x n (not_dyn_sum o u.part.ty v.part.ty m) (pair_ok a b int c u v y.0 h k y.1) y.2
+
+  converted_ok : (o : Op) (p : Place) (a b : Expr) (c : Table) (u v x : Cast) → IsInserted a c u → IsInserted b u.table v → (sort_of o ≡ equality → ⊥)
+      → converted ks.dynamic o p u.part v.part v.table ≡ Ok x → IsInserted (expr.binary o p a b) c x
+  converted_ok o p a b c u v x h k n =
+      split (is_dyn_sum o u.part.ty v.part.ty) (λ z. cond z (dyn_sum ks.dynamic p u.part v.part v.table) (int_operator ks.dynamic o p u.part v.part v.table) ≡ Ok x → IsInserted (expr.binary o p a b) c x)
+      (λ y e. let d = dyn_sum_is o u.part.ty v.part.ty y in subst (λ (z : Op). IsInserted (expr.binary z p a b) c x) (sym d.sum) (dyn_sum_ok p a b c u v x h k d.left d.right e))
+      (λ m. int_operator_ok o p a b c u v x h k n m)
+
+  equated_ok : (o : Op) (p : Place) (a b : Expr) (c : Table) (u v x : Cast) → IsInserted a c u → IsInserted b u.table v → sort_of o ≡ equality
+      → equated o u.part v.part v.table ≡ Ok x → IsInserted (expr.binary o p a b) c x
+  equated_ok o p a b c u v x h k i e =
+      inserted_so (expr.binary o p a b) c _ x e
+      (record {
+        place = h.place;
+        grows = grows_on c.types u.table.types v.table.types h.grows k.grows;
+        elaborates = λ types w. of_equality i (h.elaborates types (within_before ks.dynamic u.table.types v.table.types types k.grows w)) (k.elaborates types w);
+      })
+
+  operated_ok : (o : Op) (p : Place) (a b : Expr) (c : Table) (u v x : Cast) → IsInserted a c u → IsInserted b u.table v → operated ks.dynamic o p u.part v.part v.table ≡ Ok x
+      → IsInserted (expr.binary o p a b) c x
+  operated_ok o p a b c u v x h k =
+      split (is_equality (sort_of o)) (λ z. cond z (equated o u.part v.part v.table) (converted ks.dynamic o p u.part v.part v.table) ≡ Ok x → IsInserted (expr.binary o p a b) c x)
+      (λ y. equated_ok o p a b c u v x h k (equality_is (sort_of o) y))
+      (λ n. converted_ok o p a b c u v x h k (not_equality (sort_of o) n))
+
+  neg_ok : (p : Place) (a : Expr) (b : Table) (u x : Cast) → IsInserted a b u → negated ks.dynamic p u.part u.table ≡ Ok x → IsInserted (expr.neg p a) b x
+  neg_ok p a b u x h e =
+      let y = then_ok (used u.part int u.table) _ x e in
+      let i = at_ok a int b u y.0 h y.1 in
+      inserted_so (expr.neg p a) b _ x y.2
+      (record { place = refl; grows = i.grows; elaborates = λ types w. of_neg (i.elaborates types w) (plain_site types p kind.Arithmetic ks.dynamic w.dynamic) })
+
+  not_ok : (p : Place) (a : Expr) (b : Table) (u x : Cast) → IsInserted a b u → denied p u.part u.table ≡ Ok x → IsInserted (expr.negation p a) b x
+  not_ok p a b u x h e =
+      let y = then_ok (used u.part bool u.table) _ x e in
+      let i = at_ok a bool b u y.0 h y.1 in
+      inserted_so (expr.negation p a) b _ x y.2 (record { place = refl; grows = i.grows; elaborates = λ types w. of_not (i.elaborates types w) })
+
+  both_ok : (a b : Expr) (c : Table) (u v x : Cast) → IsInserted a c u → IsInserted b u.table v → conjoined u.part v.part v.table ≡ Ok x → IsInserted (expr.both a b) c x
+  both_ok a b c u v x h k e =
+      let y = then_ok (used_both bool u.part v.part v.table) _ x e in
+      let i = pair_ok a b bool c u v y.0 h k y.1 in
+      inserted_so (expr.both a b) c _ x y.2 (record { place = i.place; grows = i.grows; elaborates = λ types w. of_both (i.elaborates types w) })
+
+  either_ok : (a b : Expr) (c : Table) (u v x : Cast) → IsInserted a c u → IsInserted b u.table v → disjoined u.part v.part v.table ≡ Ok x → IsInserted (expr.either a b) c x
+  either_ok a b c u v x h k e =
+      let y = then_ok (used_both bool u.part v.part v.table) _ x e in
+      let i = pair_ok a b bool c u v y.0 h k y.1 in
+      inserted_so (expr.either a b) c _ x y.2 (record { place = i.place; grows = i.grows; elaborates = λ types w. of_either (i.elaborates types w) })
 
   -- ---- fields
 
@@ -236,10 +312,24 @@ module _ (names : Names) (ks : Known) (known : IsKnown names ks) where
     inserted_ok (expr.text p t) b x q = inserted_so (expr.text p t) b _ x q (record { place = refl; grows = stays b.types; elaborates = λ types w. of_text })
     inserted_ok (expr.truth p v) b x q = inserted_so (expr.truth p v) b _ x q (record { place = refl; grows = stays b.types; elaborates = λ types w. of_truth })
     inserted_ok (expr.nil p) b x q = inserted_so (expr.nil p) b _ x q (record { place = refl; grows = stays b.types; elaborates = λ types w. of_nil })
-    inserted_ok (expr.binary Add p y z) b x q =
-        let u = then_ok (inserted ks y b) (λ (u : Cast). and_then (inserted ks z u.table) (λ v. summed ks.dynamic p u.part v.part v.table)) x q in
-        let v = then_ok (inserted ks z u.0.table) (λ (v : Cast). summed ks.dynamic p u.0.part v.part v.table) x u.2 in
-        sum_ok p y z b u.0 v.0 x (inserted_ok y b u.0 u.1) (inserted_ok z u.0.table v.0 v.1) v.2
+    inserted_ok (expr.neg p y) b x q =
+        let u = then_ok (inserted ks y b) (λ (u : Cast). negated ks.dynamic p u.part u.table) x q in
+        neg_ok p y b u.0 x (inserted_ok y b u.0 u.1) u.2
+    inserted_ok (expr.negation p y) b x q =
+        let u = then_ok (inserted ks y b) (λ (u : Cast). denied p u.part u.table) x q in
+        not_ok p y b u.0 x (inserted_ok y b u.0 u.1) u.2
+    inserted_ok (expr.binary o p y z) b x q =
+        let u = then_ok (inserted ks y b) (λ (u : Cast). and_then (inserted ks z u.table) (λ v. operated ks.dynamic o p u.part v.part v.table)) x q in
+        let v = then_ok (inserted ks z u.0.table) (λ (v : Cast). operated ks.dynamic o p u.0.part v.part v.table) x u.2 in
+        operated_ok o p y z b u.0 v.0 x (inserted_ok y b u.0 u.1) (inserted_ok z u.0.table v.0 v.1) v.2
+    inserted_ok (expr.both y z) b x q =
+        let u = then_ok (inserted ks y b) (λ (u : Cast). and_then (inserted ks z u.table) (λ v. conjoined u.part v.part v.table)) x q in
+        let v = then_ok (inserted ks z u.0.table) (λ (v : Cast). conjoined u.0.part v.part v.table) x u.2 in
+        both_ok y z b u.0 v.0 x (inserted_ok y b u.0 u.1) (inserted_ok z u.0.table v.0 v.1) v.2
+    inserted_ok (expr.either y z) b x q =
+        let u = then_ok (inserted ks y b) (λ (u : Cast). and_then (inserted ks z u.table) (λ v. disjoined u.part v.part v.table)) x q in
+        let v = then_ok (inserted ks z u.0.table) (λ (v : Cast). disjoined u.0.part v.part v.table) x u.2 in
+        either_ok y z b u.0 v.0 x (inserted_ok y b u.0 u.1) (inserted_ok z u.0.table v.0 v.1) v.2
     inserted_ok (expr.read y w) b x q =
         let u = then_ok (inserted ks y b) (λ (u : Cast). read_member ks.dynamic u.part.ty u.part.expr u.part.place w u.table) x q in
         member_ok y w b u.0 x u.0.part.ty (inserted_ok y b u.0 u.1) refl u.2

@@ -6,6 +6,8 @@ pub mod Steps
 pub mod Classes
 pub mod AnnotationLaws
 pub mod SiteLaws
+pub mod OperatorTests
+pub mod OperatorChoice
 pub mod PartLaws
 pub mod InsertLaws
 pub mod FineLaws

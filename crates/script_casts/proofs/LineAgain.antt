@@ -1,5 +1,5 @@
 -- The lines that the rules say are what the code gives, and the first fault is what it refuses.
-use Rattle.std.proofs.Common.{◌≡◌, ℕ, true, List, [], ◌∷◌, ◌++◌, ◌⊎◌, inl, inr, Result, Ok, Err, refl, ◌∙◌, ap, subst}
+use Rattle.std.proofs.Common.{◌≡◌, ℕ, true, ◌&&◌, List, [], Result, Ok, Err, refl, ◌∙◌, ap, subst}
 use Rattle.std.specs.Prelude.{Option, Some, None, is_some}
 use Rattle.std.proofs.lemmas.Bool.{and_parts}
 use Rattle.mono_list.proofs.Cases.{some_is, none_some, some_none}
@@ -8,33 +8,34 @@ use Rattle.mono_syntax.specs.declared.leaf.Site.{Site}
 use Rattle.mono_syntax.specs.declared.leaf.Word.{Word}
 use Rattle.mono_syntax.specs.declared.refusal.Reason.TheVariants.{Inconsistent, NoField}
 use Rattle.mono_syntax.specs.declared.refusal.Refusal.{Refusal}
-use Rattle.mono_syntax.specs.declared.tree.Item.{Item}
-use Rattle.mono_syntax.specs.declared.tree.Item.TheVariants as item
 use Rattle.mono_syntax.specs.Expr.{Expr}
-use Rattle.mono_syntax.specs.Stmt.{Stmt, assign, write}
+use Rattle.mono_syntax.specs.Stmt.{Stmt, write, plain, Block, Branches, Else}
 use Rattle.mono_syntax.specs.CastExpr.{CastExpr}
-use Rattle.mono_syntax.specs.CastStmt.{CastStmt}
+use Rattle.mono_syntax.specs.CastStmt.{CastStmt, CastBlock, CastBranches, CastElse}
 use Rattle.mono_syntax.specs.Ty.{Ty, dyn, int, bool, str, nil, fun, obj, Fields}
 use Rattle.mono_tree.specs.Meet.{AreApart}
 use Rattle.mono_tree.specs.Precise.{Precise}
 use Rattle.mono_tree.specs.WellTyped.{type_of_name}
-use Rattle.script_rules.specs.Definitions.{statements_of}
-use Rattle.typing_rules.specs.Elaborates.{ElaboratesLine, assigns, prints, writes_dyn, writes_static, writes_field, ElaboratesBlock, ends, goes_on}
+use Rattle.typing_rules.specs.ElaboratesLines.{ElaboratesLine, passes, stands_alone, assigns, prints, writes_dyn, writes_static, writes_field, branches, loops, ElaboratesGuarded, guards, ElaboratesBranches, no_branch, next_branch, ElaboratesElse, no_last, at_last, ElaboratesBlock, ends, goes_on}
 use Rattle.typing_rules.specs.Members.{Names, field_type, member_type}
 use Rattle.typing_rules.specs.SourcePlaces.{place_of}
-use Rattle.typing_rules.specs.TypingFaults.{at, LineFault, in_value, at_value, in_print, in_receiver, in_written, no_target, at_written, BlockFault, in_this, in_later}
+use Rattle.typing_rules.specs.TypingFaults.{at}
+use Rattle.typing_rules.specs.LineFaults.{LineFault, in_alone, in_value, at_value, in_print, in_receiver, in_written, no_target, at_written, in_branches, in_else, in_loop, GuardedFault, in_condition, in_guarded, BranchFault, in_branch, in_later_branch, BlockFault, in_this, in_later}
+use Rattle.script_casts.specs.declared.blocks.Body.{Body}
+use Rattle.script_casts.specs.declared.blocks.Branched.{Branched}
+use Rattle.script_casts.specs.declared.blocks.Guarded.{Guarded}
+use Rattle.script_casts.specs.declared.blocks.Last.{Last}
 use Rattle.script_casts.specs.declared.known.Known.{Known}
 use Rattle.script_casts.specs.declared.sites.Cast.{Cast}
 use Rattle.script_casts.specs.declared.sites.Part.{Part}
 use Rattle.script_casts.specs.declared.sites.Table.{Table}
-use Rattle.script_casts.specs.declared.statements.Body.{Body}
 use Rattle.script_casts.specs.declared.statements.Line.{Line}
-use Rattle.script_casts.specs.Fine.{is_fine, is_fine_line, all_fine}
+use Rattle.script_casts.specs.Fine.{is_fine, has_branch, is_fine_line, are_fine_lines, are_fine_branches, is_fine_else}
 use Rattle.script_casts.specs.Inserted.{used, inserted, inserted_all}
-use Rattle.script_casts.specs.Lines.{assigned_value, static_write, write_typed, write_member, line_of, with_line, lines_from}
+use Rattle.script_casts.specs.Lines.{assigned_value, static_write, write_typed, write_member, condition, begun, next, conditional, unbranched, with_branch, ended, line_of, block_from, branches_from, last_of}
 use Rattle.script_casts.proofs.Classes.{IsKnown}
 use Rattle.script_casts.proofs.FineLaws.{there, name_known}
-use Rattle.script_casts.proofs.InsertAgain.{apart_so, unless_so, Inserts, again, all_again, fault_again, all_fault_again, dyn_not_apart}
+use Rattle.script_casts.proofs.InsertAgain.{apart_so, unless_so, Inserts, InsertsAt, used_again, StopsAt, part_stops, use_stops, again, at_again, all_again, fault_again, at_fault_again, all_fault_again, dyn_not_apart}
 use Rattle.script_casts.proofs.InsertLaws.{inserted_ok}
 use Rattle.script_casts.proofs.SiteLaws.{used_unless, used_apart, uses_not_apart}
 use Rattle.script_casts.proofs.Steps.{then_is, then_stops}
@@ -65,20 +66,66 @@ module _ (names : Names) (ks : Known) (known : IsKnown names ks) (types : List T
             (ap (λ (z : Option Ty). write_typed z h.cast.part.expr w k.cast.part k.cast.table) f ∙ then_is (used k.cast.part t k.cast.table) _ v.0 _ v.1 refl),
       )
 
-  pub line_again : {ss us : List Site} {s : Stmt} {c : CastStmt} → ElaboratesLine types names ss s c us → (b : Table) → (x : Line) × (line_of ks s b ≡ Ok x)
-  line_again (assigns {w = w} {ann = ann} {e = e} {s = s} {t = t} n f g) b =
-      let h = again names ks known types f b in
-      let v = used_unless h.cast.part t h.cast.table (unless_so h.cast.part.ty s t h.type (uses_not_apart g)) in
-      (_, assigned_at w e b t _ n (then_is (inserted ks e b) _ h.cast _ h.is (then_is (used h.cast.part t h.cast.table) _ v.0 _ v.1 refl)))
-  line_again (prints {es = es} f) b = let h = all_again names ks known types f [] b in (_, then_is (inserted_all ks [] es b) _ h.parts _ h.is refl)
-  line_again (writes_dyn {o = o} {e = e} {w = w} {s = s} f g i j) b =
-      let h = again names ks known types f b in
-      let k = again names ks known types g h.cast.table in
-      (_, write_at o w e b dyn s h k _ refl)
-  line_again (writes_static {o = o} {e = e} {w = w} {fs = fs} {s = s} {t = t} f g i j k) b =
-      field_again o w e b fs t s (again names ks known types f b) (again names ks known types g) i (uses_not_apart k)
-  line_again (writes_field {o = o} {e = e} {w = w} {fs = fs} {s = s} {t = t} f g i j k l) b =
-      field_again o w e b fs t s (again names ks known types f b) (again names ks known types g) i (uses_not_apart k)
+  alone_again : (e : Expr) (b : Table) (s : Ty) → Inserts names ks known e s b → (x : Line) × (line_of ks (plain e) b ≡ Ok x)
+  alone_again e b s h = (_, then_is (inserted ks e b) _ h.cast _ h.is refl)
+
+  condition_again : (e : Expr) (b : Table) → InsertsAt names ks known e bool b → (z : Cast) × (condition ks e b ≡ Ok z)
+  condition_again e b h = let z = used_again names ks known e bool b h in (z.0, then_is (inserted ks e b) _ h.part.cast _ h.part.is z.1)
+
+  -- a condition and the block behind it, where the two are there
+  guard_made : (e : Expr) (body : Block) (b : Table) (z : Cast) (v : Body) → condition ks e b ≡ Ok z → block_from ks (begun z.table) body ≡ Ok v
+      → (x : Guarded) × (conditional (condition ks e b) (λ t. block_from ks (begun t) body) ≡ Ok x)
+  guard_made e body b z v q r = (_, then_is (condition ks e b) _ z _ q (then_is (block_from ks (begun z.table) body) _ v _ r refl))
+
+  mutual
+    pub line_again : {ss us : List Site} {s : Stmt} {c : CastStmt} → ElaboratesLine types names ss s c us → (b : Table) → (x : Line) × (line_of ks s b ≡ Ok x)
+    line_again (assigns {w = w} {ann = ann} {e = e} {s = s} {t = t} n f g) b =
+        let h = again names ks known types f b in
+        let v = used_unless h.cast.part t h.cast.table (unless_so h.cast.part.ty s t h.type (uses_not_apart g)) in
+        (_, assigned_at w e b t _ n (then_is (inserted ks e b) _ h.cast _ h.is (then_is (used h.cast.part t h.cast.table) _ v.0 _ v.1 refl)))
+    line_again (prints {es = es} f) b = let h = all_again names ks known types f [] b in (_, then_is (inserted_all ks [] es b) _ h.parts _ h.is refl)
+    line_again (writes_dyn {o = o} {e = e} {w = w} {s = s} f g i j) b =
+        let h = again names ks known types f b in
+        let k = again names ks known types g h.cast.table in
+        (_, write_at o w e b dyn s h k _ refl)
+    line_again (writes_static {o = o} {e = e} {w = w} {fs = fs} {s = s} {t = t} f g i j k) b =
+        field_again o w e b fs t s (again names ks known types f b) (again names ks known types g) i (uses_not_apart k)
+    line_again (writes_field {o = o} {e = e} {w = w} {fs = fs} {s = s} {t = t} f g i j k l) b =
+        field_again o w e b fs t s (again names ks known types f b) (again names ks known types g) i (uses_not_apart k)
+    line_again passes b = (_, refl)
+    line_again (stands_alone {e = e} {s = s} f) b = alone_again e b s (again names ks known types f b)
+    line_again (branches {bs = bs} {last = last} f g) b =
+        let u = branches_again f (unbranched b) in
+        let v = last_again g u.0.table in
+        (_, then_is (branches_from ks (unbranched b) bs) _ u.0 _ u.1 (then_is (last_of ks last u.0.table) _ v.0 _ v.1 refl))
+    line_again (loops {e = e} {body = body} f) b =
+        let u = guard_again f b in
+        (_, then_is (conditional (condition ks e b) (λ t. block_from ks (begun t) body)) _ u.0 _ u.1 refl)
+
+    guard_again : {ss us : List Site} {e : Expr} {body : Block} {c : CastExpr} {d : CastBlock} → ElaboratesGuarded types names ss e body c d us → (b : Table)
+        → (x : Guarded) × (conditional (condition ks e b) (λ t. block_from ks (begun t) body) ≡ Ok x)
+    guard_again (guards {e = e} {body = body} f g) b =
+        let z = condition_again e b (at_again names ks known types f b) in
+        let v = block_again g (begun z.0.table) in
+        guard_made e body b z.0 v.0 z.1 v.1
+
+    branches_again : {ss us : List Site} {bs : Branches} {cs : CastBranches} → ElaboratesBranches types names ss bs cs us → (done : Branched) → (x : Branched) × (branches_from ks done bs ≡ Ok x)
+    branches_again no_branch done = (done, refl)
+    branches_again (next_branch {e = e} {body = body} {bs = bs} f g) done =
+        let u = guard_again f done.table in
+        let rest = branches_again g (with_branch done u.0) in
+        (rest.0, then_is (conditional (condition ks e done.table) (λ t. block_from ks (begun t) body)) (λ (x : Guarded). branches_from ks (with_branch done x) bs) u.0 _ u.1 rest.1)
+
+    last_again : {ss us : List Site} {last : Else} {d : CastElse} → ElaboratesElse types names ss last d us → (b : Table) → (x : Last) × (last_of ks last b ≡ Ok x)
+    last_again no_last b = (_, refl)
+    last_again (at_last {body = body} f) b = let u = block_again f (begun b) in (_, then_is (block_from ks (begun b) body) _ u.0 _ u.1 refl)
+
+    pub block_again : {ss us : List Site} {stmts : Block} {cs : CastBlock} → ElaboratesBlock types names ss stmts cs us → (done : Body) → (x : Body) × (block_from ks done stmts ≡ Ok x)
+    block_again ends done = (done, refl)
+    block_again (goes_on {a = s} {as_ = rest} f g) done =
+        let x = line_again f done.table in
+        let all = block_again g (next done x.0) in
+        (all.0, then_is (line_of ks s done.table) (λ (y : Line). block_from ks (next done y) rest) x.0 _ x.1 all.1)
 
   -- ---- refusals
 
@@ -112,85 +159,78 @@ module _ (names : Names) (ks : Known) (known : IsKnown names ks) (types : List T
   apart_write nil o w v b t u p e a q = none_some (write_member ks.dynamic nil o w v b ≡ Err (at p Inconsistent)) e
   apart_write (fun ps r) o w v b t u p e a q = none_some (write_member ks.dynamic (fun ps r) o w v b ≡ Err (at p Inconsistent)) e
 
-  -- the name that a line assigns is known
-  abbrev pub TargetKnown : Stmt → Type 0
-  TargetKnown (assign w ann e) = is_some (type_of_name ks.values w.text) ≡ true
-  TargetKnown _ = Unit {0}
-
   value_fault : (w : Word) (e : Expr) (r : Refusal) (b : Table) → is_some (type_of_name ks.values w.text) ≡ true → inserted ks e b ≡ Err r → assigned_value (type_of_name ks.values w.text) ks w e b ≡ Err r
   value_fault w e r b h q =
       let (t, k) = there (type_of_name ks.values w.text) h in
       ap (λ (o : Option Ty). assigned_value o ks w e b) k ∙ then_stops (inserted ks e b) _ r q
 
-  pub line_fault_again : {s : Stmt} {r : Refusal} → LineFault types names s r → TargetKnown s → (b : Table) → line_of ks s b ≡ Err r
-  line_fault_again (in_value {r = r} {w = w} {e = e} f) h b = value_fault w e r b h (fault_again names ks known types f b)
-  line_fault_again (at_value {w = w} {e = e} {s = s} {t = t} n f a) h b =
-      let k = again names ks known types f b in
-      assigned_at w e b t _ n (then_is (inserted ks e b) _ k.cast _ k.is (then_stops (used k.cast.part t k.cast.table) _ (at (place_of e) Inconsistent) (refused_use e b s t k a)))
-  line_fault_again (in_print {r = r} {es = es} f) h b = then_stops (inserted_all ks [] es b) _ r (all_fault_again names ks known types f [] b)
-  line_fault_again (in_receiver {r = r} {o = o} f) h b = then_stops (inserted ks o b) _ r (fault_again names ks known types f b)
-  line_fault_again (in_written {r = r} {o = o} {e = e} f g) h b =
-      let k = again names ks known types f b in
-      then_is (inserted ks o b) _ k.cast _ k.is (then_stops (inserted ks e k.cast.table) _ r (fault_again names ks known types g k.cast.table))
-  line_fault_again (no_target {o = o} {e = e} {w = w} {s = s} {u = u} f g n) h b =
-      let k = again names ks known types f b in
-      let l = again names ks known types g k.cast.table in
-      write_at o w e b s u k l _ (no_member s k.cast.part.expr w l.cast.part l.cast.table n)
-  line_fault_again (at_written {o = o} {e = e} {w = w} {s = s} {t = t} {u = u} f g n a) h b =
-      let k = again names ks known types f b in
-      let l = again names ks known types g k.cast.table in
-      write_at o w e b s u k l _ (apart_write s k.cast.part.expr w l.cast.part l.cast.table t u (place_of e) n a (refused_use e k.cast.table u t l a))
+  alone_fault : (e : Expr) (b : Table) (r : Refusal) → inserted ks e b ≡ Err r → line_of ks (plain e) b ≡ Err r
+  alone_fault e b r q = then_stops (inserted ks e b) _ r q
 
-  -- ---- the block
+  condition_stops : (e : Expr) (b : Table) (r : Refusal) → StopsAt names ks known types e bool b r → condition ks e b ≡ Err r
+  condition_stops e b r (part_stops q) = then_stops (inserted ks e b) _ r q
+  condition_stops e b r (use_stops h q g) = then_is (inserted ks e b) _ h _ q g
 
-  next_line : (s : Stmt) (done : Body) (x : Line) → line_of ks s done.table ≡ Ok x → with_line ks done s ≡ Ok (record { lines = done.lines ++ x.statement ∷ []; table = x.table })
-  next_line s done x q = then_is (line_of ks s done.table) _ x _ q refl
+  mutual
+    pub line_fault_again : {s : Stmt} {r : Refusal} → LineFault types names s r → is_fine_line ks s ≡ true → (b : Table) → line_of ks s b ≡ Err r
+    line_fault_again (in_value {r = r} {w = w} {e = e} f) h b =
+        let there = and_parts (is_some (type_of_name ks.values w.text)) (is_fine ks e) h in
+        value_fault w e r b there.0 (fault_again names ks known types f b)
+    line_fault_again (at_value {w = w} {e = e} {s = s} {t = t} n f a) h b =
+        let k = again names ks known types f b in
+        assigned_at w e b t _ n (then_is (inserted ks e b) _ k.cast _ k.is (then_stops (used k.cast.part t k.cast.table) _ (at (place_of e) Inconsistent) (refused_use e b s t k a)))
+    line_fault_again (in_print {r = r} {es = es} f) h b = then_stops (inserted_all ks [] es b) _ r (all_fault_again names ks known types f [] b)
+    line_fault_again (in_receiver {r = r} {o = o} f) h b = then_stops (inserted ks o b) _ r (fault_again names ks known types f b)
+    line_fault_again (in_written {r = r} {o = o} {e = e} f g) h b =
+        let k = again names ks known types f b in
+        then_is (inserted ks o b) _ k.cast _ k.is (then_stops (inserted ks e k.cast.table) _ r (fault_again names ks known types g k.cast.table))
+    line_fault_again (no_target {o = o} {e = e} {w = w} {s = s} {u = u} f g n) h b =
+        let k = again names ks known types f b in
+        let l = again names ks known types g k.cast.table in
+        write_at o w e b s u k l _ (no_member s k.cast.part.expr w l.cast.part l.cast.table n)
+    line_fault_again (at_written {o = o} {e = e} {w = w} {s = s} {t = t} {u = u} f g n a) h b =
+        let k = again names ks known types f b in
+        let l = again names ks known types g k.cast.table in
+        write_at o w e b s u k l _ (apart_write s k.cast.part.expr w l.cast.part l.cast.table t u (place_of e) n a (refused_use e k.cast.table u t l a))
+    line_fault_again (in_alone {r = r} {e = e} f) h b = alone_fault e b r (fault_again names ks known types f b)
+    line_fault_again (in_branches {r = r} {bs = bs} {last = last} f) h b =
+        let fs = and_parts (has_branch bs) (are_fine_branches ks bs && is_fine_else ks last) h in
+        let gs = and_parts (are_fine_branches ks bs) (is_fine_else ks last) fs.1 in
+        then_stops (branches_from ks (unbranched b) bs) _ r (branch_fault_again f gs.0 (unbranched b))
+    line_fault_again (in_else {r = r} {bs = bs} {body = body} f g) h b =
+        let fs = and_parts (has_branch bs) (are_fine_branches ks bs && are_fine_lines ks body) h in
+        let gs = and_parts (are_fine_branches ks bs) (are_fine_lines ks body) fs.1 in
+        let u = branches_again f (unbranched b) in
+        then_is (branches_from ks (unbranched b) bs) _ u.0 _ u.1
+        (then_stops (ended (block_from ks (begun u.0.table) body)) _ r (then_stops (block_from ks (begun u.0.table) body) _ r (block_fault_again g gs.1 (begun u.0.table))))
+    line_fault_again (in_loop {r = r} {e = e} {body = body} f) h b =
+        let fs = and_parts (is_fine ks e) (are_fine_lines ks body) h in
+        then_stops (conditional (condition ks e b) (λ t. block_from ks (begun t) body)) _ r (guard_fault_again f fs.1 b)
 
-  -- the first line and the rest
-  abbrev HeadAndRest : List Stmt → Type 0
-  HeadAndRest [] = Unit {0}
-  HeadAndRest (s ∷ ss) =
-      (as_ : List Site) × (bs : List Site) × (cs : List Site) × (c : CastStmt) × (ds : List CastStmt)
-      × ElaboratesLine types names as_ s c bs × ElaboratesBlock types names bs ss ds cs
+    guard_fault_again : {e : Expr} {body : Block} {r : Refusal} → GuardedFault types names e body r → are_fine_lines ks body ≡ true → (b : Table)
+        → conditional (condition ks e b) (λ t. block_from ks (begun t) body) ≡ Err r
+    guard_fault_again (in_condition {r = r} {e = e} f) h b = then_stops (condition ks e b) _ r (condition_stops e b r (at_fault_again names ks known types f b))
+    guard_fault_again (in_guarded {r = r} {e = e} {body = body} f g) h b =
+        let z = condition_again e b (at_again names ks known types f b) in
+        then_is (condition ks e b) _ z.0 _ z.1 (then_stops (block_from ks (begun z.0.table) body) _ r (block_fault_again g h (begun z.0.table)))
 
-  head_and_rest : (ss us : List Site) (stmts : List Stmt) (cs : List CastStmt) → ElaboratesBlock types names ss stmts cs us → HeadAndRest stmts
-  head_and_rest ss us stmts cs ends = tt
-  head_and_rest ss us stmts cs (goes_on f g) = (_, _, _, _, _, f, g)
+    branch_fault_again : {bs : Branches} {r : Refusal} → BranchFault types names bs r → are_fine_branches ks bs ≡ true → (done : Branched) → branches_from ks done bs ≡ Err r
+    branch_fault_again (in_branch {r = r} {e = e} {body = body} {bs = bs} f) h done =
+        let fs = and_parts (is_fine ks e) (are_fine_lines ks body && are_fine_branches ks bs) h in
+        let gs = and_parts (are_fine_lines ks body) (are_fine_branches ks bs) fs.1 in
+        then_stops (conditional (condition ks e done.table) (λ t. block_from ks (begun t) body)) _ r (guard_fault_again f gs.0 done.table)
+    branch_fault_again (in_later_branch {r = r} {e = e} {body = body} {bs = bs} f g) h done =
+        let fs = and_parts (is_fine ks e) (are_fine_lines ks body && are_fine_branches ks bs) h in
+        let gs = and_parts (are_fine_lines ks body) (are_fine_branches ks bs) fs.1 in
+        let u = guard_again f done.table in
+        then_is (conditional (condition ks e done.table) (λ t. block_from ks (begun t) body)) (λ (x : Guarded). branches_from ks (with_branch done x) bs) u.0 _ u.1
+        (branch_fault_again g gs.1 (with_branch done u.0))
 
-  pub lines_again : (ss us : List Site) (is : List Item) (cs : List CastStmt) → ElaboratesBlock types names ss (statements_of is) cs us → (done : Body) → (x : Body) × (lines_from ks done is ≡ Ok x)
-  lines_again ss us [] cs h done = (done, refl)
-  lines_again ss us (item.Stmt s ∷ is) cs h done =
-      let (as_, bs, ws, c, ds, line, rest) = head_and_rest ss us (s ∷ statements_of is) cs h in
-      let x = line_again line done.table in
-      let next : Body = record { lines = done.lines ++ x.0.statement ∷ []; table = x.0.table } in
-      let all = lines_again bs ws is ds rest next in
-      (all.0, then_is (with_line ks done s) (λ (more : Body). lines_from ks more is) next _ (next_line s done x.0 x.1) all.1)
-  lines_again ss us (item.Class d ∷ is) cs h done = lines_again ss us is cs h done
-  lines_again ss us (item.Def d ∷ is) cs h done = lines_again ss us is cs h done
-
-  abbrev HereOrLater : List Stmt → Refusal → Type 0
-  HereOrLater [] r = ⊥
-  HereOrLater (s ∷ ss) r = LineFault types names s r ⊎ ((as_ : List Site) × (bs : List Site) × (c : CastStmt) × ElaboratesLine types names as_ s c bs × BlockFault types names ss r)
-
-  here_or_later : (stmts : List Stmt) (r : Refusal) → BlockFault types names stmts r → HereOrLater stmts r
-  here_or_later stmts r (in_this f) = inl f
-  here_or_later stmts r (in_later f g) = inr (_, _, _, f, g)
-
-  fine_target : (s : Stmt) → is_fine_line ks s ≡ true → TargetKnown s
-  fine_target (assign w ann e) f = (and_parts (is_some (type_of_name ks.values w.text)) (is_fine ks e) f).0
-  fine_target _ f = tt
-
-  pub lines_fault_again : (is : List Item) (r : Refusal) → all_fine ks is ≡ true → BlockFault types names (statements_of is) r → (done : Body) → lines_from ks done is ≡ Err r
-  lines_fault_again [] r f h done = absurd (here_or_later [] r h)
-  lines_fault_again (item.Stmt s ∷ is) r f h done =
-      let fs = and_parts (is_fine_line ks s) (all_fine ks is) f in
-      elim (here_or_later (s ∷ statements_of is) r h) [
-        | inl g ↦ then_stops (with_line ks done s) (λ (more : Body). lines_from ks more is) r (then_stops (line_of ks s done.table) _ r (line_fault_again g (fine_target s fs.0) done.table))
-        | inr t ↦ (
-            let x = line_again t.3 done.table in
-            let next : Body = record { lines = done.lines ++ x.0.statement ∷ []; table = x.0.table } in
-            then_is (with_line ks done s) (λ (more : Body). lines_from ks more is) next _ (next_line s done x.0 x.1) (lines_fault_again is r fs.1 t.4 next)
-            )
-      ]
-  lines_fault_again (item.Class d ∷ is) r f h done = lines_fault_again is r f h done
-  lines_fault_again (item.Def d ∷ is) r f h done = absurd cc
+    pub block_fault_again : {stmts : Block} {r : Refusal} → BlockFault types names stmts r → are_fine_lines ks stmts ≡ true → (done : Body) → block_from ks done stmts ≡ Err r
+    block_fault_again (in_this {r = r} {a = s} {as_ = rest} f) h done =
+        let fs = and_parts (is_fine_line ks s) (are_fine_lines ks rest) h in
+        then_stops (line_of ks s done.table) _ r (line_fault_again f fs.0 done.table)
+    block_fault_again (in_later {r = r} {a = s} {as_ = rest} f g) h done =
+        let fs = and_parts (is_fine_line ks s) (are_fine_lines ks rest) h in
+        let x = line_again f done.table in
+        then_is (line_of ks s done.table) (λ (y : Line). block_from ks (next done y) rest) x.0 _ x.1 (block_fault_again g fs.1 (next done x.0))

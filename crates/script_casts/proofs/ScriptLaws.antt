@@ -10,30 +10,32 @@ use Rattle.mono_syntax.specs.declared.refusal.Refusal.{Refusal}
 use Rattle.mono_syntax.specs.declared.script.Scoped.{Scoped}
 use Rattle.mono_syntax.specs.declared.tree.ClassDef.{ClassDef}
 use Rattle.mono_syntax.specs.CastStmt.{CastStmt}
+use Rattle.mono_syntax.specs.CastStmtView.{cast_block}
+use Rattle.mono_syntax.specs.StmtView.{block}
 use Rattle.mono_syntax.specs.Ty.{Ty, dyn}
 use Rattle.mono_tree.specs.WellTyped.{IsWellTypedProgram}
 use Rattle.script_rules.specs.BlockNames.{Target, firsts, all_targets}
 use Rattle.script_rules.specs.Scoping.{IsScope, class_list, main_block}
 use Rattle.typing_rules.specs.BuiltForms.{AreBuilt, not_built}
-use Rattle.typing_rules.specs.Elaborates.{ElaboratesBlock}
+use Rattle.typing_rules.specs.ElaboratesLines.{ElaboratesBlock}
 use Rattle.typing_rules.specs.HasCasts.{AreClasses, AreNames, IsMainNames, HasCasts, IsRefusal, unbuilt, mistyped, IsFault, HaveClassTypes}
 use Rattle.typing_rules.specs.Members.{Names}
-use Rattle.typing_rules.specs.TypingFaults.{BlockFault}
+use Rattle.typing_rules.specs.LineFaults.{BlockFault}
 use Rattle.typing_rules.proofs.TypedLaws.{well_typed}
 use Rattle.script_casts.specs.declared.known.Known.{Known}
-use Rattle.script_casts.specs.declared.statements.Body.{Body}
+use Rattle.script_casts.specs.declared.blocks.Body.{Body}
 use Rattle.script_casts.specs.declared.types.Placed.{Placed}
 use Rattle.script_casts.specs.Fine.{all_fine}
 use Rattle.script_casts.specs.Inserted.{and_then}
-use Rattle.script_casts.specs.Lines.{class_of, lines_from, finished, start, made_from, made}
+use Rattle.script_casts.specs.Lines.{class_of, block_from, lines_from, finished, start, made_from, made}
 use Rattle.script_casts.specs.Refusals.{Gives, Refuses}
 use Rattle.script_casts.specs.TypeList.{with_type}
-use Rattle.script_casts.proofs.FineLaws.{fine_items, items_fine}
+use Rattle.script_casts.proofs.FineLaws.{fine_items, items_fine, fine_block}
 use Rattle.script_casts.proofs.InsertLaws.{Within}
 use Rattle.script_casts.proofs.KnownLaws.{IsFound, known_found, cast_classes}
-use Rattle.script_casts.proofs.LineAgain.{lines_again, lines_fault_again}
-use Rattle.script_casts.proofs.LineFaults.{lines_err}
-use Rattle.script_casts.proofs.LineLaws.{IsBody, lines_ok}
+use Rattle.script_casts.proofs.LineAgain.{block_again, block_fault_again}
+use Rattle.script_casts.proofs.LineFaults.{block_err}
+use Rattle.script_casts.proofs.LineLaws.{IsBody, body_ok, items_lines}
 use Rattle.script_casts.proofs.Steps.{ok_is, ok_err, err_is, then_ok, first_err, second_err, then_err, then_is, then_stops}
 use Rattle.script_casts.proofs.TypeListLaws.{IsPlaced, is_placed}
 use Rattle.script_casts.proofs.WriteLaws.{writes_any_once}
@@ -92,13 +94,18 @@ module _ (d : Scoped) (scope : IsScope d.script d) where
       go true e = fit (made_is f true e) e (fine_items f.names f.known f.is d.script.items e)
       go false e = unfit (made_is f false e) (λ b. let y = items_fine f.names f.known f.is d.script.items b in cc)
 
+  -- the lines of the items are those of the main block
+  whole : (f : IsFound d (with_type d.types dyn).at)
+      → lines_from f.known (start (with_type d.types dyn).types) d.script.items ≡ block_from f.known (start (with_type d.types dyn).types) (block (main_block d.script))
+  whole f = items_lines f.known (start (with_type d.types dyn).types) d.script.items
+
   -- ---- what the code gives is what the rules say
 
-  finished_casts : (f : IsFound d (with_type d.types dyn).at) (b : Body) → AreBuilt f.names d.script.items → IsBody f.names f.known f.is (start (with_type d.types dyn).types) d.script.items b
+  finished_casts : (f : IsFound d (with_type d.types dyn).at) (b : Body) → AreBuilt f.names d.script.items → IsBody f.names f.known f.is (start (with_type d.types dyn).types) (block (main_block d.script)) b
       → HasCasts d (finished d f.known b)
   finished_casts f b built h =
       let classes = cast_classes f.names.classes 0 f.names.classes f.known.classes f.is.classes in
-      let whole : Within f.known.dynamic b.table.types b.table.types = record { keeps = λ k t e. e; dynamic = h.grows.keeps f.known.dynamic.0 dyn (dyn_there f) } in
+      let all : Within f.known.dynamic b.table.types b.table.types = record { keeps = λ k t e. e; dynamic = h.grows.keeps f.known.dynamic.0 dyn (dyn_there f) } in
       record {
         names = f.names;
         main = f.main;
@@ -109,21 +116,21 @@ module _ (d : Scoped) (scope : IsScope d.script d) where
         functions = refl;
         values = f.is.values;
         threads = refl;
-        body = subst (λ (l : List CastStmt). ElaboratesBlock b.table.types f.names [] (main_block d.script) l b.table.sites) (sym h.all) (h.elaborates b.table.types whole);
+        body = subst (λ (l : List CastStmt). ElaboratesBlock b.table.types f.names [] (block (main_block d.script)) (cast_block l) b.table.sites) (sym h.all) (h.elaborates b.table.types all);
       }
 
   ok_casts : (f : IsFound d (with_type d.types dyn).at) (p : CastScript) → Tested f → made d ≡ Ok p → HasCasts d p
   ok_casts f p (unfit e h) q = absurd (ok_err (sym q ∙ e))
   ok_casts f p (fit e y built) q =
       let b = then_ok (lines_from f.known (start (with_type d.types dyn).types) d.script.items) _ p (sym e ∙ q) in
-      subst (λ (z : CastScript). HasCasts d z) (ok_is b.2) (finished_casts f b.0 built (lines_ok f.names f.known f.is (start (with_type d.types dyn).types) d.script.items b.0 b.1))
+      subst (λ (z : CastScript). HasCasts d z) (ok_is b.2) (finished_casts f b.0 built (body_ok f.names f.known f.is (start (with_type d.types dyn).types) (block (main_block d.script)) b.0 (sym (whole f) ∙ b.1)))
 
   err_refusal : (f : IsFound d (with_type d.types dyn).at) (r : Refusal) → Tested f → made d ≡ Err r → IsRefusal d r
   err_refusal f r (unfit e h) q = subst (λ (z : Refusal). IsRefusal d z) (err_is (sym e ∙ q)) (unbuilt f.names f.main h)
   err_refusal f r (fit e y built) q =
       elim (then_err (lines_from f.known (start (with_type d.types dyn).types) d.script.items) _ r (sym e ∙ q)) [
         | first_err g ↦ (
-            let h = lines_err f.names f.known f.is (start (with_type d.types dyn).types) d.script.items r (dyn_there f) y g in
+            let h = block_err f.names f.known f.is (start (with_type d.types dyn).types) (block (main_block d.script)) r (dyn_there f) (fine_block f.known d.script.items y) (sym (whole f) ∙ g) in
             mistyped f.names h.types r f.main built h.fault
             )
         | second_err b g j ↦ absurd (ok_err j)
@@ -140,9 +147,9 @@ module _ (d : Scoped) (scope : IsScope d.script d) where
   casts_ok : (f : IsFound d (with_type d.types dyn).at) (p : CastScript) → Tested f → HasCasts d p → (o : CastScript) × (made d ≡ Ok o)
   casts_ok f p (unfit e h) c = absurd (h (subst (λ (n : Names). AreBuilt n d.script.items) (same_names d c.names f.names c.main f.main) c.built))
   casts_ok f p (fit e y built) c =
-      let body = subst (λ (n : Names). ElaboratesBlock p.types n [] (main_block d.script) p.main.body p.sites) (same_names d c.names f.names c.main f.main) c.body in
-      let b = lines_again f.names f.known f.is p.types [] p.sites d.script.items p.main.body body (start (with_type d.types dyn).types) in
-      (finished d f.known b.0, e ∙ then_is (lines_from f.known (start (with_type d.types dyn).types) d.script.items) _ b.0 _ b.1 refl)
+      let body = subst (λ (n : Names). ElaboratesBlock p.types n [] (block (main_block d.script)) (cast_block p.main.body) p.sites) (same_names d c.names f.names c.main f.main) c.body in
+      let b = block_again f.names f.known f.is p.types body (start (with_type d.types dyn).types) in
+      (finished d f.known b.0, e ∙ then_is (lines_from f.known (start (with_type d.types dyn).types) d.script.items) _ b.0 _ (whole f ∙ b.1) refl)
 
   -- a script with casts is accepted
   pub casts_made : (p : CastScript) → HasCasts d p → (o : CastScript) × (made d ≡ Ok o)
@@ -152,12 +159,12 @@ module _ (d : Scoped) (scope : IsScope d.script d) where
   refused_unfit f n m h (unfit e i) = e
   refused_unfit f n m h (fit e y built) = absurd (h (subst (λ (z : Names). AreBuilt z d.script.items) (same_names d f.names n f.main m) built))
 
-  refused_fault : (f : IsFound d (with_type d.types dyn).at) (n : Names) (types : List Ty) (r : Refusal) → IsMainNames d n → AreBuilt n d.script.items → BlockFault types n (main_block d.script) r → Tested f
+  refused_fault : (f : IsFound d (with_type d.types dyn).at) (n : Names) (types : List Ty) (r : Refusal) → IsMainNames d n → AreBuilt n d.script.items → BlockFault types n (block (main_block d.script)) r → Tested f
       → made d ≡ Err r
   refused_fault f n types r m built h (unfit e i) = absurd (i (subst (λ (z : Names). AreBuilt z d.script.items) (same_names d n f.names m f.main) built))
   refused_fault f n types r m built h (fit e y i) =
-      let fault = subst (λ (z : Names). BlockFault types z (main_block d.script) r) (same_names d n f.names m f.main) h in
-      e ∙ then_stops (lines_from f.known (start (with_type d.types dyn).types) d.script.items) _ r (lines_fault_again f.names f.known f.is types d.script.items r y fault (start (with_type d.types dyn).types))
+      let fault = subst (λ (z : Names). BlockFault types z (block (main_block d.script)) r) (same_names d n f.names m f.main) h in
+      e ∙ then_stops (lines_from f.known (start (with_type d.types dyn).types) d.script.items) _ r (whole f ∙ block_fault_again f.names f.known f.is types fault (fine_block f.known d.script.items y) (start (with_type d.types dyn).types))
 
   -- a script with a refusal is refused so
   pub refusal_made : (r : Refusal) → IsRefusal d r → made d ≡ Err r

@@ -1,7 +1,8 @@
 -- The insertion of casts as the code does it: sites go behind those so far, and types behind those of the list.
-use Rattle.std.specs.Prelude.{List, [], ◌∷◌, ◌++◌, length, ◌&&◌, Option, Some, None, Result, Ok, Err, nat_eq, if◌then◌else◌}
+use Rattle.std.specs.Prelude.{List, [], ◌∷◌, ◌++◌, length, Option, Some, None, Result, Ok, Err, nat_eq, if◌then◌else◌}
 use Rattle.mono_syntax.specs.declared.leaf.Kind.{Kind}
 use Rattle.mono_syntax.specs.declared.leaf.Kind.TheVariants as kind
+use Rattle.mono_syntax.specs.declared.leaf.Op.{Op}
 use Rattle.mono_syntax.specs.declared.leaf.Op.TheVariants.{Add}
 use Rattle.mono_syntax.specs.declared.leaf.Place.{Place}
 use Rattle.mono_syntax.specs.declared.leaf.TyAt.{TyAt}
@@ -19,17 +20,20 @@ use Rattle.mono_tree.specs.Precision.{precise}
 use Rattle.mono_tree.specs.WellTyped.{type_of_name}
 use Rattle.typing_rules.specs.BuiltForms.{not_built}
 use Rattle.typing_rules.specs.Members.{field_type}
+use Rattle.typing_rules.specs.Operators.{sort_of}
 use Rattle.typing_rules.specs.TypingFaults.{at}
 use Rattle.script_casts.specs.declared.known.Known.{Known}
 use Rattle.script_casts.specs.declared.known.KnownClass.{KnownClass}
 use Rattle.script_casts.specs.declared.objects.Arguments.{Arguments}
 use Rattle.script_casts.specs.declared.objects.Parts.{Parts}
 use Rattle.script_casts.specs.declared.sites.Cast.{Cast}
+use Rattle.script_casts.specs.declared.sites.Pair.{Pair}
 use Rattle.script_casts.specs.declared.sites.Part.{Part}
 use Rattle.script_casts.specs.declared.sites.Table.{Table}
 use Rattle.script_casts.specs.Annotations.{written}
 use Rattle.script_casts.specs.KnownNames.{known_class}
-use Rattle.script_casts.specs.TypeList.{is_dyn, consistent, with_type}
+use Rattle.script_casts.specs.OperatorTests.{is_equality, is_arithmetic, is_dyn_sum}
+use Rattle.script_casts.specs.TypeList.{consistent, with_type}
 
 -- the next step, if there is no refusal
 abbrev pub and_then : {A B : Type 0} → Result A Refusal → (A → Result B Refusal) → Result B Refusal
@@ -68,25 +72,59 @@ abbrev pub cast_to : Option Ty → Place → Part → Table → Result Cast Refu
 cast_to None p a b = Err not_built
 cast_to (Some t) p a b = fitted p a t b
 
--- ---- names and sums
+-- ---- names
 
 abbrev pub read_name : TyAt → Option Ty → Word → Table → Result Cast Refusal
 read_name d None w b = Err not_built
 read_name d (Some t) w b = plain (cast.local (length b.sites) w.text) w.place t (with_plain d b w.place kind.Name)
 
-abbrev pub int_operator : TyAt → Place → Part → Part → Table → Result Cast Refusal
-int_operator d p x y b = plain (cast.binary Add None (Some (length b.sites)) x.expr y.expr) x.place int (with_plain d b p kind.Arithmetic)
+-- ---- operators
 
-abbrev pub int_sum : TyAt → Place → Part → Part → Table → Result Cast Refusal
-int_sum d p x y b = and_then (used x int b) (λ u. and_then (used y int u.table) (λ v. int_operator d p u.part v.part v.table))
+-- two parts, each used at a type
+abbrev pub used_both : Ty → Part → Part → Table → Result Pair Refusal
+used_both t x y b = and_then (used x t b) (λ u. and_then (used y t u.table) (λ v. Ok (record { first = u.part; second = v.part; table = v.table })))
+
+-- arithmetic on two integers, at p
+abbrev pub calculated : TyAt → Op → Place → Pair → Result Cast Refusal
+calculated d o p u = plain (cast.binary o None (Some (length u.table.sites)) u.first.expr u.second.expr) u.first.place int (with_plain d u.table p kind.Arithmetic)
+
+abbrev pub compared : Op → Pair → Result Cast Refusal
+compared o u = plain (cast.binary o None None u.first.expr u.second.expr) u.first.place bool u.table
+
+-- an operator on two integers
+abbrev pub on_integers : TyAt → Op → Place → Pair → Result Cast Refusal
+on_integers d o p u = if is_arithmetic (sort_of o) then calculated d o p u else compared o u
+
+abbrev pub int_operator : TyAt → Op → Place → Part → Part → Table → Result Cast Refusal
+int_operator d o p x y b = and_then (used_both int x y b) (λ u. on_integers d o p u)
 
 abbrev pub dyn_sum : TyAt → Place → Part → Part → Table → Result Cast Refusal
 dyn_sum d p x y b =
     let u = with_plain d b p kind.Operator in
     plain (cast.binary Add (Some (length b.sites)) (Some (length u.sites)) x.expr y.expr) x.place dyn (with_plain d u p kind.Arithmetic)
 
-abbrev pub summed : TyAt → Place → Part → Part → Table → Result Cast Refusal
-summed d p x y b = if is_dyn x.ty && is_dyn y.ty then dyn_sum d p x y b else int_sum d p x y b
+-- an operator whose parts may need a cast
+abbrev pub converted : TyAt → Op → Place → Part → Part → Table → Result Cast Refusal
+converted d o p x y b = if is_dyn_sum o x.ty y.ty then dyn_sum d p x y b else int_operator d o p x y b
+
+abbrev pub equated : Op → Part → Part → Table → Result Cast Refusal
+equated o x y b = plain (cast.binary o None None x.expr y.expr) x.place bool b
+
+-- an operator on two parts
+abbrev pub operated : TyAt → Op → Place → Part → Part → Table → Result Cast Refusal
+operated d o p x y b = if is_equality (sort_of o) then equated o x y b else converted d o p x y b
+
+abbrev pub negated : TyAt → Place → Part → Table → Result Cast Refusal
+negated d p x b = and_then (used x int b) (λ u. plain (cast.neg (length u.table.sites) u.part.expr) p int (with_plain d u.table p kind.Arithmetic))
+
+abbrev pub denied : Place → Part → Table → Result Cast Refusal
+denied p x b = and_then (used x bool b) (λ u. plain (cast.negation u.part.expr) p bool u.table)
+
+abbrev pub conjoined : Part → Part → Table → Result Cast Refusal
+conjoined x y b = and_then (used_both bool x y b) (λ u. plain (cast.both u.first.expr u.second.expr) u.first.place bool u.table)
+
+abbrev pub disjoined : Part → Part → Table → Result Cast Refusal
+disjoined x y b = and_then (used_both bool x y b) (λ u. plain (cast.either u.first.expr u.second.expr) u.first.place bool u.table)
 
 -- ---- fields
 
@@ -130,6 +168,10 @@ called ks _ p xs = Err not_built
 
 -- ---- expressions
 
+-- two expressions from left to right, and then their whole
+abbrev pub in_turn : Result Cast Refusal → (Table → Result Cast Refusal) → (Part → Part → Table → Result Cast Refusal) → Result Cast Refusal
+in_turn a b whole = and_then a (λ u. and_then (b u.table) (λ v. whole u.part v.part v.table))
+
 -- a name of the block
 abbrev pub named : Known → Word → Table → Result Cast Refusal
 named ks w b = read_name ks.dynamic (type_of_name ks.values w.text) w b
@@ -142,7 +184,11 @@ abbrev mutual
   inserted ks (expr.text p t) b = plain (cast.text t) p str b
   inserted ks (expr.truth p v) b = plain (cast.truth v) p bool b
   inserted ks (expr.nil p) b = plain cast.nil p nil b
-  inserted ks (expr.binary Add p x y) b = and_then (inserted ks x b) (λ u. and_then (inserted ks y u.table) (λ v. summed ks.dynamic p u.part v.part v.table))
+  inserted ks (expr.neg p x) b = and_then (inserted ks x b) (λ u. negated ks.dynamic p u.part u.table)
+  inserted ks (expr.negation p x) b = and_then (inserted ks x b) (λ u. denied p u.part u.table)
+  inserted ks (expr.binary o p x y) b = in_turn (inserted ks x b) (λ t. inserted ks y t) (λ u v t. operated ks.dynamic o p u v t)
+  inserted ks (expr.both x y) b = in_turn (inserted ks x b) (λ t. inserted ks y t) (λ u v t. conjoined u v t)
+  inserted ks (expr.either x y) b = in_turn (inserted ks x b) (λ t. inserted ks y t) (λ u v t. disjoined u v t)
   inserted ks (expr.read x w) b = and_then (inserted ks x b) (λ u. read_member ks.dynamic u.part.ty u.part.expr u.part.place w u.table)
   inserted ks (expr.cast p a x) b = and_then (inserted ks x b) (λ u. cast_to (written ks.annotations a) p u.part u.table)
   inserted ks (expr.call p f xs) b = and_then (inserted_all ks [] xs b) (λ u. called ks.classes f p u)

@@ -1,5 +1,6 @@
 pub mod Refusals
 pub mod TypeList
+pub mod OperatorTests
 pub mod Annotations
 pub mod KnownNames
 pub mod Fine

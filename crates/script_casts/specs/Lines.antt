@@ -11,12 +11,13 @@ use Rattle.mono_syntax.specs.declared.script.Scoped.{Scoped}
 use Rattle.mono_syntax.specs.declared.tree.Item.{Item}
 use Rattle.mono_syntax.specs.declared.tree.Item.TheVariants as item
 use Rattle.mono_syntax.specs.Expr.{Expr, Exprs}
-use Rattle.mono_syntax.specs.Stmt.{Stmt, assign, print, write}
+use Rattle.mono_syntax.specs.Stmt.{Stmt, pass, assign, print, write, plain, if_any, loop, Block, no_stmts, more_stmts, Branches, no_branches, more_branches, Else, no_else, otherwise}
 use Rattle.mono_syntax.specs.CastExpr.{CastExpr}
 use Rattle.mono_syntax.specs.CastExprView.{cast_exprs}
 use Rattle.mono_syntax.specs.CastStmt.{CastStmt}
 use Rattle.mono_syntax.specs.CastStmt as cast_stmt
-use Rattle.mono_syntax.specs.Ty.{Ty, dyn, obj}
+use Rattle.mono_syntax.specs.CastStmtView.{cast_block, cast_branches, cast_else_block}
+use Rattle.mono_syntax.specs.Ty.{Ty, dyn, bool, obj}
 use Rattle.mono_tree.specs.Static.{is_static}
 use Rattle.mono_tree.specs.WellTyped.{type_of_name}
 use Rattle.typing_rules.specs.BuiltForms.{not_built}
@@ -24,9 +25,13 @@ use Rattle.typing_rules.specs.Members.{field_type}
 use Rattle.typing_rules.specs.TypingFaults.{at}
 use Rattle.script_casts.specs.declared.known.Known.{Known}
 use Rattle.script_casts.specs.declared.known.KnownClass.{KnownClass}
+use Rattle.script_casts.specs.declared.sites.Cast.{Cast}
 use Rattle.script_casts.specs.declared.sites.Part.{Part}
 use Rattle.script_casts.specs.declared.sites.Table.{Table}
-use Rattle.script_casts.specs.declared.statements.Body.{Body}
+use Rattle.script_casts.specs.declared.blocks.Body.{Body}
+use Rattle.script_casts.specs.declared.blocks.Branched.{Branched}
+use Rattle.script_casts.specs.declared.blocks.Guarded.{Guarded}
+use Rattle.script_casts.specs.declared.blocks.Last.{Last}
 use Rattle.script_casts.specs.declared.statements.Line.{Line}
 use Rattle.script_casts.specs.declared.types.Placed.{Placed}
 use Rattle.script_casts.specs.Fine.{all_fine}
@@ -83,15 +88,73 @@ written_value ks o w e b =
 
 -- ---- lines
 
-abbrev pub line_of : Known → Stmt → Table → Result Line Refusal
-line_of ks (assign w ann e) b = assigned_value (type_of_name ks.values w.text) ks w e b
-line_of ks (print p es) b = printed_values ks es b
-line_of ks (write o w e) b = written_value ks o w e b
-line_of ks _ b = Err not_built
+abbrev pub alone : Known → Expr → Table → Result Line Refusal
+alone ks e b = and_then (inserted ks e b) (λ u. Ok (record { statement = cast_stmt.plain u.part.expr; table = u.table }))
+
+-- a condition, used at `bool`
+abbrev pub condition : Known → Expr → Table → Result Cast Refusal
+condition ks e b = and_then (inserted ks e b) (λ u. used u.part bool u.table)
+
+-- no line yet
+abbrev pub begun : Table → Body
+begun b = record { lines = []; table = b }
+
+-- one more line
+abbrev pub next : Body → Line → Body
+next done x = record { lines = done.lines ++ x.statement ∷ []; table = x.table }
+
+-- a condition and the block behind it
+abbrev pub conditional : Result Cast Refusal → (Table → Result Body Refusal) → Result Guarded Refusal
+conditional c block = and_then c (λ u. and_then (block u.table) (λ v. Ok (record { condition = u.part.expr; lines = v.lines; table = v.table })))
+
+abbrev pub looped : Result Guarded Refusal → Result Line Refusal
+looped r = and_then r (λ u. Ok (record { statement = cast_stmt.loop u.condition (cast_block u.lines); table = u.table }))
+
+-- no branch yet
+abbrev pub unbranched : Table → Branched
+unbranched b = record { branches = []; table = b }
+
+-- one more branch
+abbrev pub with_branch : Branched → Guarded → Branched
+with_branch done x = record { branches = done.branches ++ record { condition = x.condition; body = x.lines } ∷ []; table = x.table }
+
+-- branches and then an else
+abbrev pub branched : Result Branched Refusal → (Table → Result Last Refusal) → Result Line Refusal
+branched bs last =
+    and_then bs (λ u. and_then (last u.table) (λ v. Ok (record { statement = cast_stmt.if_any (cast_branches u.branches) (cast_else_block v.block); table = v.table })))
+
+-- the block of an else
+abbrev pub ended : Result Body Refusal → Result Last Refusal
+ended r = and_then r (λ u. Ok (record { block = Some u.lines; table = u.table }))
+
+abbrev mutual
+  pub line_of : Known → Stmt → Table → Result Line Refusal
+  line_of ks pass b = Ok (record { statement = cast_stmt.pass; table = b })
+  line_of ks (assign w ann e) b = assigned_value (type_of_name ks.values w.text) ks w e b
+  line_of ks (print p es) b = printed_values ks es b
+  line_of ks (write o w e) b = written_value ks o w e b
+  line_of ks (plain e) b = alone ks e b
+  line_of ks (if_any bs last) b = branched (branches_from ks (unbranched b) bs) (λ t. last_of ks last t)
+  line_of ks (loop e body) b = looped (conditional (condition ks e b) (λ t. block_from ks (begun t) body))
+  line_of ks _ b = Err not_built
+
+  -- the statements of a block behind lines that are done
+  pub block_from : Known → Body → Block → Result Body Refusal
+  block_from ks done no_stmts = Ok done
+  block_from ks done (more_stmts s ss) = and_then (line_of ks s done.table) (λ x. block_from ks (next done x) ss)
+
+  pub branches_from : Known → Branched → Branches → Result Branched Refusal
+  branches_from ks done no_branches = Ok done
+  branches_from ks done (more_branches e body bs) =
+      and_then (conditional (condition ks e done.table) (λ t. block_from ks (begun t) body)) (λ x. branches_from ks (with_branch done x) bs)
+
+  pub last_of : Known → Else → Table → Result Last Refusal
+  last_of ks no_else b = Ok (record { block = None; table = b })
+  last_of ks (otherwise body) b = ended (block_from ks (begun b) body)
 
 -- the lines that are done, and one more
 abbrev pub with_line : Known → Body → Stmt → Result Body Refusal
-with_line ks done s = and_then (line_of ks s done.table) (λ x. Ok (record { lines = done.lines ++ x.statement ∷ []; table = x.table }))
+with_line ks done s = and_then (line_of ks s done.table) (λ x. Ok (next done x))
 
 -- a class has no line
 abbrev pub with_item : Known → Body → Item → Result Body Refusal

@@ -4,10 +4,12 @@
 #![tactic(auto)]
 
 mod annotations;
+mod blocks;
 mod fine;
 mod inserting;
 mod known;
 mod objects;
+mod operators;
 mod script;
 mod sites;
 mod statements;

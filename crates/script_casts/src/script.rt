@@ -9,10 +9,10 @@ ghost use Rattle.script_casts.specs.Lines.{class_of, finished, made_with, made_a
 ghost use Rattle.script_casts.specs.TypeList.{with_type};
 ghost use Rattle.script_casts.specs.Refusals.{Gives, Refuses};
 
+use crate::blocks::{Body, all_lines};
 use crate::fine::all_fine;
 use crate::known::{Known, KnownClass, known_in};
 use crate::sites::{NOT_BUILT, Table};
-use crate::statements::{Body, all_lines};
 use crate::types::{Placed, new_type, with_type};
 use mono_list::Shared;
 use mono_syntax::{CastBlock, CastClass, CastScript, Field, LoadFault, Name, Scoped, Ty, TyKind};

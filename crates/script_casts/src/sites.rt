@@ -40,6 +40,14 @@ pub struct Cast {
     pub table: Table,
 }
 
+/// Two parts, and all sites so far.
+#[derive(Drop)]
+pub struct Pair {
+    pub first: Part,
+    pub second: Part,
+    pub table: Table,
+}
+
 /// The same part for another owner.
 pub fn shared(part: &Part) -> Result<Part, AllocError>
     ensures { IfOk result (λ same. same ≡ part.now) }

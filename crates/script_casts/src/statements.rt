@@ -1,7 +1,7 @@
 ghost use Rattle.std.specs.Prelude.{◌≡◌, IfOk, Ok, map};
 ghost use Rattle.std.specs.Option.{option_copied};
 ghost use Rattle.mono_syntax.specs.ExprView.{exprs};
-ghost use Rattle.script_casts.specs.Lines.{assigned_value, expr_of_part, printed_values, dyn_write, static_write, write_used, write_typed, write_member, written_value, line_of, with_line, with_item, lines_from};
+ghost use Rattle.script_casts.specs.Lines.{assigned_value, expr_of_part, printed_values, dyn_write, static_write, write_used, write_typed, write_member, written_value, alone, condition};
 ghost use Rattle.script_casts.specs.Refusals.{Gives};
 
 use crate::annotations::type_of;
@@ -13,8 +13,7 @@ use crate::types::{is_fully_static, new_type};
 use crate::uses::{no_field, used};
 use mono_list::Shared;
 use mono_syntax::{
-    CastExpr, CastStmt, CastStmtKind, Expr, Item, Kind, LoadFault, Stmt, StmtKind, Ty, TyAt,
-    TyKind, Word,
+    CastExpr, CastStmt, CastStmtKind, Expr, Kind, LoadFault, Ty, TyAt, TyKind, Word,
 };
 use sqlite_items::Items;
 use std::alloc::{AllocError, Global};
@@ -26,14 +25,8 @@ pub struct Line {
     pub table: Table,
 }
 
-/// Statements with their casts, and all sites so far.
-#[derive(Drop)]
-pub struct Body {
-    pub lines: Items<CastStmt>,
-    pub table: Table,
-}
-
-fn assigned_value(
+/// A value that is assigned to a name, at whose type it is used.
+pub fn assigned_value(
     alloc: Global,
     ty: Option<&Shared<Ty>>,
     known: &Known,
@@ -63,7 +56,8 @@ fn exprs_of(alloc: Global, parts: &[Part]) -> Result<Items<Shared<CastExpr>>, Al
     Ok(all)
 }
 
-fn printed_values(
+/// Values that are printed.
+pub fn printed_values(
     alloc: Global,
     known: &Known,
     es: &[Expr],
@@ -175,7 +169,8 @@ fn write_member(
     }
 }
 
-fn written_value(
+/// A value that is written to a field of an object.
+pub fn written_value(
     alloc: Global,
     known: &Known,
     object: &Expr,
@@ -197,52 +192,21 @@ fn written_value(
     )
 }
 
-fn line_of(alloc: Global, known: &Known, s: &Stmt, table: Table) -> Result<Line, LoadFault>
-    ensures { Gives result (line_of known.now s.now table) }
+/// An expression that stands alone.
+pub fn alone(alloc: Global, known: &Known, e: &Expr, table: Table) -> Result<Line, LoadFault>
+    ensures { Gives result (alone known.now e.now table) }
 {
-    match &s.kind {
-        StmtKind::Assign(word, _, e) => {
-            let ty = type_of(known.values.as_slice(), &word.text);
-            assigned_value(alloc, ty, known, word, e, table)
-        }
-        StmtKind::Print(_, es) => printed_values(alloc, known, es.as_slice(), table),
-        StmtKind::Write(o, word, e) => written_value(alloc, known, o, word, e, table),
-        _ => Err(LoadFault::Refused(NOT_BUILT)),
-    }
+    let Cast { part, table } = inserted(alloc, known, e, table)?;
+    let kind = CastStmtKind::Plain(part.expr);
+    let statement = CastStmt { kind };
+    Ok(Line { statement, table })
 }
 
-fn with_line(alloc: Global, known: &Known, done: Body, s: &Stmt) -> Result<Body, LoadFault>
-    ensures { Gives result (with_line known.now done s.now) }
+/// A condition, used at `bool`.
+pub fn condition(alloc: Global, known: &Known, e: &Expr, table: Table) -> Result<Cast, LoadFault>
+    ensures { Gives result (condition known.now e.now table) }
 {
-    let Body { mut lines, table } = done;
-    let line = line_of(alloc, known, s, table)?;
-    lines.push(line.statement)?;
-    let table = line.table;
-    Ok(Body { lines, table })
-}
-
-/// The lines that are done, and that of one more item. A class has none.
-fn with_item(alloc: Global, known: &Known, done: Body, item: &Item) -> Result<Body, LoadFault>
-    ensures { Gives result (with_item known.now done item.now) }
-{
-    match item {
-        Item::Stmt(s) => with_line(alloc, known, done, s),
-        _ => Ok(done),
-    }
-}
-
-/// All lines with their casts behind those that are done, or the first refusal of typing.
-pub fn all_lines(
-    alloc: Global,
-    known: &Known,
-    start: Body,
-    items: &[Item],
-) -> Result<Body, LoadFault>
-    ensures { Gives result (lines_from known.now start items.now) }
-{
-    let mut done = start;
-    for item in items {
-        done = with_item(alloc, known, done, item)?;
-    }
-    Ok(done)
+    let value = inserted(alloc, known, e, table)?;
+    let truth = new_type(alloc, TyKind::Bool)?;
+    used(alloc, value.part, &truth, value.table)
 }

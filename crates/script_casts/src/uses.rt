@@ -4,15 +4,15 @@ ghost use Rattle.mono_syntax.specs.declared.refusal.Reason.TheVariants.{NoField}
 ghost use Rattle.mono_syntax.specs.Ty.{dyn};
 ghost use Rattle.typing_rules.specs.TypingFaults.{at};
 ghost use Rattle.std.specs.Option.{option_copied};
-ghost use Rattle.script_casts.specs.Inserted.{fitted, used, cast_to, read_name, int_operator, int_sum, dyn_sum, summed, read_typed, read_member};
+ghost use Rattle.script_casts.specs.Inserted.{fitted, used, cast_to, read_name, read_typed, read_member};
 ghost use Rattle.script_casts.specs.Refusals.{Gives};
 
 use crate::known::field_of;
 use crate::sites::{Cast, NOT_BUILT, Part, Table, of_base_type, plain, with_plain_site, with_site};
-use crate::types::{is_consistent, is_dyn, is_precise, new_type};
+use crate::types::{is_consistent, is_precise};
 use mono_list::Shared;
 use mono_syntax::{
-    CastExpr, CastExprKind, Kind, LoadFault, Op, Place, Reason, Refusal, Ty, TyAt, TyKind, Word,
+    CastExpr, CastExprKind, Kind, LoadFault, Place, Reason, Refusal, Ty, TyAt, TyKind, Word,
 };
 use std::alloc::Global;
 
@@ -88,72 +88,6 @@ pub fn read_name(
         ty.share()?,
         table,
     )
-}
-
-/// A sum of two parts of type `int`.
-fn int_operator(
-    alloc: Global,
-    dynamic: TyAt,
-    place: Place,
-    a: Part,
-    b: Part,
-    table: Table,
-) -> Result<Cast, LoadFault>
-    ensures { Gives result (int_operator dynamic place a b table) }
-{
-    let (site, table) = with_plain_site(dynamic, table, place, Kind::Arithmetic)?;
-    let kind = CastExprKind::Binary(Op::Add, None, Some(site), a.expr, b.expr);
-    of_base_type(alloc, kind, a.place, TyKind::Int, table)
-}
-
-fn int_sum(
-    alloc: Global,
-    dynamic: TyAt,
-    place: Place,
-    a: Part,
-    b: Part,
-    table: Table,
-) -> Result<Cast, LoadFault>
-    ensures { Gives result (int_sum dynamic place a b table) }
-{
-    let int = new_type(alloc, TyKind::Int)?;
-    let first = used(alloc, a, &int, table)?;
-    let second = used(alloc, b, &int, first.table)?;
-    int_operator(alloc, dynamic, place, first.part, second.part, second.table)
-}
-
-fn dyn_sum(
-    alloc: Global,
-    dynamic: TyAt,
-    place: Place,
-    a: Part,
-    b: Part,
-    table: Table,
-) -> Result<Cast, LoadFault>
-    ensures { Gives result (dyn_sum dynamic place a b table) }
-{
-    let (operator, table) = with_plain_site(dynamic, table, place, Kind::Operator)?;
-    let (arithmetic, table) = with_plain_site(dynamic, table, place, Kind::Arithmetic)?;
-    let kind = CastExprKind::Binary(Op::Add, Some(operator), Some(arithmetic), a.expr, b.expr);
-    of_base_type(alloc, kind, a.place, TyKind::Dyn, table)
-}
-
-/// A sum of two parts, whose sites go behind those of the second.
-pub fn summed(
-    alloc: Global,
-    dynamic: TyAt,
-    place: Place,
-    a: Part,
-    b: Cast,
-) -> Result<Cast, LoadFault>
-    ensures { Gives result (summed dynamic place a b.part b.table) }
-{
-    let Cast { part, table } = b;
-    if is_dyn(a.ty.get()) && is_dyn(part.ty.get()) {
-        dyn_sum(alloc, dynamic, place, a, part, table)
-    } else {
-        int_sum(alloc, dynamic, place, a, part, table)
-    }
 }
 
 /// The refusal where no such field is.

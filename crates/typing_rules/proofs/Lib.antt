@@ -4,5 +4,6 @@ pub mod Classes
 pub mod Extending
 pub mod TypedLaws
 pub mod UniqueLaws
+pub mod UniqueLines
 pub mod NameOrder
 pub mod ClassTypeLaws

@@ -1,13 +1,12 @@
--- The forms that typing is built for so far: classes, and lines that assign, write or print, of sums, fields, casts and new objects,
--- all of whose names are known.
+-- The forms that typing is built for so far: classes, and statements that assign, write, print, branch, loop or pass, or are
+-- expressions, of operators, fields, casts and new objects, all of whose names are known.
 use Rattle.std.specs.Prelude.{◌≡◌, ◌≤◌, List, [], ◌∷◌, Some}
-use Rattle.mono_syntax.specs.declared.leaf.Op.TheVariants.{Add}
 use Rattle.mono_syntax.specs.declared.refusal.Reason.TheVariants.{NotBuilt}
 use Rattle.mono_syntax.specs.declared.refusal.Refusal.{Refusal}
 use Rattle.mono_syntax.specs.declared.tree.Item.{Item}
 use Rattle.mono_syntax.specs.declared.tree.Item.TheVariants as item
-use Rattle.mono_syntax.specs.Expr.{Expr, local, number, text, truth, nil, binary, read, call, cast, Exprs, no_exprs, more_exprs}
-use Rattle.mono_syntax.specs.Stmt.{Stmt, assign, print, write}
+use Rattle.mono_syntax.specs.Expr.{Expr, local, number, text, truth, nil, neg, negation, binary, both, either, read, call, cast, Exprs, no_exprs, more_exprs}
+use Rattle.mono_syntax.specs.Stmt.{Stmt, pass, assign, print, write, plain, if_any, loop, Block, no_stmts, more_stmts, Branches, no_branches, more_branches, Else, no_else, otherwise}
 use Rattle.mono_syntax.specs.Ty.{Ty, Fields}
 use Rattle.mono_tree.specs.WellTyped.{type_of_name}
 use Rattle.script_rules.specs.Writes.{Writes, Declares}
@@ -20,7 +19,11 @@ abbrev mutual
   IsBuilt names (text p t) = Unit {0}
   IsBuilt names (truth p b) = Unit {0}
   IsBuilt names (nil p) = Unit {0}
-  IsBuilt names (binary Add p a b) = IsBuilt names a × IsBuilt names b
+  IsBuilt names (neg p a) = IsBuilt names a
+  IsBuilt names (negation p a) = IsBuilt names a
+  IsBuilt names (binary o p a b) = IsBuilt names a × IsBuilt names b
+  IsBuilt names (both a b) = IsBuilt names a × IsBuilt names b
+  IsBuilt names (either a b) = IsBuilt names a × IsBuilt names b
   IsBuilt names (read a w) = IsBuilt names a
   IsBuilt names (cast p a e) = ((t : Ty) × Writes names.classes a t) × IsBuilt names e
   IsBuilt names (call p (local w) es) =
@@ -31,11 +34,33 @@ abbrev mutual
   AreBuiltExprs names no_exprs = Unit {0}
   AreBuiltExprs names (more_exprs e es) = IsBuilt names e × AreBuiltExprs names es
 
-abbrev pub IsBuiltLine : Names → Stmt → Type 0
-IsBuiltLine names (assign w ann e) = ((t : Ty) × (type_of_name names.values w.text ≡ Some t)) × IsBuilt names e
-IsBuiltLine names (print p es) = AreBuiltExprs names es
-IsBuiltLine names (write o w e) = IsBuilt names o × IsBuilt names e
-IsBuiltLine names _ = ⊥
+-- an `if` has a branch
+abbrev pub HasBranch : Branches → Type 0
+HasBranch no_branches = ⊥
+HasBranch (more_branches e body bs) = Unit {0}
+
+abbrev mutual
+  pub IsBuiltLine : Names → Stmt → Type 0
+  IsBuiltLine names pass = Unit {0}
+  IsBuiltLine names (assign w ann e) = ((t : Ty) × (type_of_name names.values w.text ≡ Some t)) × IsBuilt names e
+  IsBuiltLine names (print p es) = AreBuiltExprs names es
+  IsBuiltLine names (write o w e) = IsBuilt names o × IsBuilt names e
+  IsBuiltLine names (plain e) = IsBuilt names e
+  IsBuiltLine names (if_any bs last) = HasBranch bs × AreBuiltBranches names bs × IsBuiltElse names last
+  IsBuiltLine names (loop e body) = IsBuilt names e × AreBuiltLines names body
+  IsBuiltLine names _ = ⊥
+
+  pub AreBuiltLines : Names → Block → Type 0
+  AreBuiltLines names no_stmts = Unit {0}
+  AreBuiltLines names (more_stmts s ss) = IsBuiltLine names s × AreBuiltLines names ss
+
+  pub AreBuiltBranches : Names → Branches → Type 0
+  AreBuiltBranches names no_branches = Unit {0}
+  AreBuiltBranches names (more_branches e body bs) = IsBuilt names e × AreBuiltLines names body × AreBuiltBranches names bs
+
+  pub IsBuiltElse : Names → Else → Type 0
+  IsBuiltElse names no_else = Unit {0}
+  IsBuiltElse names (otherwise body) = AreBuiltLines names body
 
 -- such lines and classes alone
 abbrev pub AreBuilt : Names → List Item → Type 0

@@ -1,7 +1,8 @@
 -- Typing with casts: the type of an expression, what it becomes, and its sites.
-use Rattle.std.specs.Prelude.{◌≡◌, ℕ, ◌+◌, List, [], ◌∷◌, ◌++◌, length, Bool, true, false, Option, Some, None, slice_get}
+use Rattle.std.specs.Prelude.{◌≡◌, ℕ, ◌+◌, List, [], ◌∷◌, ◌++◌, length, Bool, Some, None, slice_get}
 use Rattle.mono_syntax.specs.declared.leaf.Kind.{Kind}
 use Rattle.mono_syntax.specs.declared.leaf.Kind.TheVariants as kind
+use Rattle.mono_syntax.specs.declared.leaf.Op.{Op}
 use Rattle.mono_syntax.specs.declared.leaf.Op.TheVariants.{Add}
 use Rattle.mono_syntax.specs.declared.leaf.Place.{Place}
 use Rattle.mono_syntax.specs.declared.leaf.Site.{Site}
@@ -9,19 +10,15 @@ use Rattle.mono_syntax.specs.declared.leaf.Word.{Word}
 use Rattle.mono_syntax.specs.Ann.{Ann}
 use Rattle.mono_syntax.specs.Expr.{Expr, Exprs, no_exprs, more_exprs}
 use Rattle.mono_syntax.specs.Expr as expr
-use Rattle.mono_syntax.specs.Stmt.{Stmt}
-use Rattle.mono_syntax.specs.Stmt as stmt
 use Rattle.mono_syntax.specs.CastExpr.{CastExpr, CastExprs}
 use Rattle.mono_syntax.specs.CastExpr as cast
-use Rattle.mono_syntax.specs.CastStmt.{CastStmt}
-use Rattle.mono_syntax.specs.CastStmt as cast_stmt
 use Rattle.mono_syntax.specs.Ty.{Ty, dyn, int, bool, str, nil, obj, Fields, no_fields, more_fields}
 use Rattle.mono_tree.specs.Precise.{Precise}
 use Rattle.mono_tree.specs.Meet.{IsMeet}
-use Rattle.mono_tree.specs.Static.{is_static}
 use Rattle.mono_tree.specs.WellTyped.{type_of_name}
 use Rattle.script_rules.specs.Writes.{Writes, Declares, in_order}
 use Rattle.typing_rules.specs.Members.{Names, Numbered, class_at, field_type}
+use Rattle.typing_rules.specs.Operators.{arithmetic, comparison, equality, sort_of}
 use Rattle.typing_rules.specs.SourcePlaces.{place_of}
 
 -- x is a site of this kind at this place; s and t are its source and target
@@ -64,12 +61,30 @@ mutual
         → Elaborates types names ss a dyn c us → Elaborates types names us b dyn d vs
         → IsPlainSite types p kind.Operator x → IsPlainSite types p kind.Arithmetic y
         → Elaborates types names ss (expr.binary Add p a b) dyn (cast.binary Add (Some (length vs)) (Some (length vs + 1)) c d) (vs ++ (x ∷ y ∷ []))
-    -- every other sum uses both parts at `int` and is an `int`
-    of_int_sum : {ss us vs ws xs : List Site} {p : Place} {a b : Expr} {s t : Ty} {c d f g : CastExpr} {x : Site}
-        → Elaborates types names ss a s c us → Elaborates types names us b t d vs → (s ≡ dyn → t ≡ dyn → ⊥)
-        → Uses types vs (place_of a) s c int f ws → Uses types ws (place_of b) t d int g xs
+    -- every other sum, and all other arithmetic, uses both parts at `int` and is an `int`
+    of_arithmetic : {ss us : List Site} {o : Op} {p : Place} {a b : Expr} {s t : Ty} {c d : CastExpr} {x : Site}
+        → sort_of o ≡ arithmetic → (o ≡ Add → s ≡ dyn → t ≡ dyn → ⊥) → ElaboratesPair types names ss a b s t int c d us
         → IsPlainSite types p kind.Arithmetic x
-        → Elaborates types names ss (expr.binary Add p a b) int (cast.binary Add None (Some (length xs)) f g) (xs ++ x ∷ [])
+        → Elaborates types names ss (expr.binary o p a b) int (cast.binary o None (Some (length us)) c d) (us ++ x ∷ [])
+    -- a comparison uses both parts at `int` and is a `bool`
+    of_comparison : {ss us : List Site} {o : Op} {p : Place} {a b : Expr} {s t : Ty} {c d : CastExpr}
+        → sort_of o ≡ comparison → ElaboratesPair types names ss a b s t int c d us
+        → Elaborates types names ss (expr.binary o p a b) bool (cast.binary o None None c d) us
+    -- values of any types are equal or not
+    of_equality : {ss us vs : List Site} {o : Op} {p : Place} {a b : Expr} {s t : Ty} {c d : CastExpr}
+        → sort_of o ≡ equality → Elaborates types names ss a s c us → Elaborates types names us b t d vs
+        → Elaborates types names ss (expr.binary o p a b) bool (cast.binary o None None c d) vs
+    -- a negative is of an `int`, and one itself
+    of_neg : {ss us : List Site} {p : Place} {a : Expr} {c : CastExpr} {x : Site}
+        → ElaboratesAt types names ss a int c us → IsPlainSite types p kind.Arithmetic x
+        → Elaborates types names ss (expr.neg p a) int (cast.neg (length us) c) (us ++ x ∷ [])
+    -- `not`, `and` and `or` use their parts at `bool` and are a `bool`
+    of_not : {ss us : List Site} {p : Place} {a : Expr} {c : CastExpr}
+        → ElaboratesAt types names ss a bool c us → Elaborates types names ss (expr.negation p a) bool (cast.negation c) us
+    of_both : {ss us : List Site} {a b : Expr} {s t : Ty} {c d : CastExpr}
+        → ElaboratesPair types names ss a b s t bool c d us → Elaborates types names ss (expr.both a b) bool (cast.both c d) us
+    of_either : {ss us : List Site} {a b : Expr} {s t : Ty} {c d : CastExpr}
+        → ElaboratesPair types names ss a b s t bool c d us → Elaborates types names ss (expr.either a b) bool (cast.either c d) us
     -- a field of a `Dyn` is a `Dyn`
     of_dyn_read : {ss us : List Site} {a : Expr} {w : Word} {c : CastExpr} {x : Site}
         → Elaborates types names ss a dyn c us → IsPlainSite types w.place kind.Member x
@@ -88,43 +103,21 @@ mutual
         → ElaborateAll types names ss es ts cs us → UsesAll types us es ts cs fs ds vs
         → Elaborates types names ss (expr.call p (expr.local w) es) t (cast.make n.number ds) vs
 
+  -- Behind the sites ss, e is used at t and becomes c.
+  pub data ElaboratesAt (types : List Ty) (names : Names) : List Site → Expr → Ty → CastExpr → List Site → Type 0 where
+    used_at : {ss us vs : List Site} {e : Expr} {s t : Ty} {c d : CastExpr}
+        → Elaborates types names ss e s c us → Uses types us (place_of e) s c t d vs → ElaboratesAt types names ss e t d vs
+
+  -- Behind the sites ss, a of type s and then b of type t are each used at u, and become c and d.
+  pub data ElaboratesPair (types : List Ty) (names : Names) : List Site → Expr → Expr → Ty → Ty → Ty → CastExpr → CastExpr → List Site → Type 0 where
+    used_pair : {ss us vs ws xs : List Site} {a b : Expr} {s t u : Ty} {c d f g : CastExpr}
+        → Elaborates types names ss a s c us → Elaborates types names us b t d vs
+        → Uses types vs (place_of a) s c u f ws → Uses types ws (place_of b) t d u g xs
+        → ElaboratesPair types names ss a b s t u f g xs
+
   -- the same of expressions in a row
   pub data ElaborateAll (types : List Ty) (names : Names) : List Site → Exprs → List Ty → CastExprs → List Site → Type 0 where
     of_none : {ss : List Site} → ElaborateAll types names ss no_exprs [] cast.no_exprs ss
     of_more : {ss us vs : List Site} {e : Expr} {es : Exprs} {t : Ty} {ts : List Ty} {c : CastExpr} {cs : CastExprs}
         → Elaborates types names ss e t c us → ElaborateAll types names us es ts cs vs
         → ElaborateAll types names ss (more_exprs e es) (t ∷ ts) (cast.more_exprs c cs) vs
-
--- the same of a statement
-pub data ElaboratesLine (types : List Ty) (names : Names) : List Site → Stmt → CastStmt → List Site → Type 0 where
-  -- the value is used at the name's type
-  assigns : {ss us vs : List Site} {w : Word} {ann : Option Ann} {e : Expr} {s t : Ty} {c d : CastExpr}
-      → type_of_name names.values w.text ≡ Some t → Elaborates types names ss e s c us → Uses types us (place_of e) s c t d vs
-      → ElaboratesLine types names ss (stmt.assign w ann e) (cast_stmt.assign w.text d) vs
-  -- values of any types are printed
-  prints : {ss us : List Site} {p : Place} {es : Exprs} {ts : List Ty} {cs : CastExprs}
-      → ElaborateAll types names ss es ts cs us
-      → ElaboratesLine types names ss (stmt.print p es) (cast_stmt.print cs) us
-  -- a field of a `Dyn` is written at `Dyn`
-  writes_dyn : {ss us vs : List Site} {o e : Expr} {w : Word} {s : Ty} {c d : CastExpr} {x y : Site}
-      → Elaborates types names ss o dyn c us → Elaborates types names us e s d vs
-      → IsPlainSite types w.place kind.Member x → IsSiteFor types (place_of e) kind.Write s dyn y
-      → ElaboratesLine types names ss (stmt.write o w e) (cast_stmt.write (Some (length vs)) (Some (length vs + 1)) dyn c w.text d) (vs ++ (x ∷ y ∷ []))
-  -- the value is used at the field's type; where that is fully static, nothing is left to test
-  writes_static : {ss us vs ws : List Site} {o e : Expr} {w : Word} {fs : Fields} {s t : Ty} {c d f : CastExpr}
-      → Elaborates types names ss o (obj fs) c us → Elaborates types names us e s d vs
-      → field_type fs w.text ≡ Some t → is_static t ≡ true → Uses types vs (place_of e) s d t f ws
-      → ElaboratesLine types names ss (stmt.write o w e) (cast_stmt.write None None t c w.text f) ws
-  -- elsewhere the field may have become more precise
-  writes_field : {ss us vs ws : List Site} {o e : Expr} {w : Word} {fs : Fields} {s t : Ty} {c d f : CastExpr} {x : Site}
-      → Elaborates types names ss o (obj fs) c us → Elaborates types names us e s d vs
-      → field_type fs w.text ≡ Some t → is_static t ≡ false → Uses types vs (place_of e) s d t f ws
-      → IsSiteFor types (place_of e) kind.Write s t x
-      → ElaboratesLine types names ss (stmt.write o w e) (cast_stmt.write None (Some (length ws)) t c w.text f) (ws ++ x ∷ [])
-
--- and of a block
-pub data ElaboratesBlock (types : List Ty) (names : Names) : List Site → List Stmt → List CastStmt → List Site → Type 0 where
-  ends : {ss : List Site} → ElaboratesBlock types names ss [] [] ss
-  goes_on : {ss us vs : List Site} {a : Stmt} {b : CastStmt} {as_ : List Stmt} {bs : List CastStmt}
-      → ElaboratesLine types names ss a b us → ElaboratesBlock types names us as_ bs vs
-      → ElaboratesBlock types names ss (a ∷ as_) (b ∷ bs) vs

@@ -8,15 +8,17 @@ use Rattle.mono_syntax.specs.declared.refusal.LoadFault.TheVariants.{Refused, Me
 use Rattle.mono_syntax.specs.declared.refusal.Refusal.{Refusal}
 use Rattle.mono_syntax.specs.declared.script.Scoped.{Scoped}
 use Rattle.mono_syntax.specs.declared.tree.ClassDef.{ClassDef}
+use Rattle.mono_syntax.specs.CastStmtView.{cast_block}
+use Rattle.mono_syntax.specs.StmtView.{block}
 use Rattle.mono_syntax.specs.Ty.{Ty}
 use Rattle.mono_tree.specs.IsType.{IsType}
 use Rattle.script_rules.specs.BlockNames.{Target, firsts, all_targets}
 use Rattle.script_rules.specs.Scoping.{AreDistinct, class_list, main_block}
 use Rattle.script_rules.specs.Writes.{WritesAny, IsClassType}
 use Rattle.typing_rules.specs.BuiltForms.{AreBuilt, not_built}
-use Rattle.typing_rules.specs.Elaborates.{ElaboratesBlock}
+use Rattle.typing_rules.specs.ElaboratesLines.{ElaboratesBlock}
 use Rattle.typing_rules.specs.Members.{Names}
-use Rattle.typing_rules.specs.TypingFaults.{BlockFault}
+use Rattle.typing_rules.specs.LineFaults.{BlockFault}
 
 -- the classes with their field names in declared order, and their types
 abbrev pub AreClasses : List ClassDef → List ClassDef → List CastClass → Type 0
@@ -46,7 +48,7 @@ pub record HasCasts (d : Scoped) (p : CastScript) : Type 0 where
   pub functions : p.functions ≡ []
   pub values : p.main.names ≡ names.values
   pub threads : p.main.threads ≡ []
-  pub body : ElaboratesBlock p.types names [] (main_block d.script) p.main.body p.sites
+  pub body : ElaboratesBlock p.types names [] (block (main_block d.script)) (cast_block p.main.body) p.sites
 
 -- the script is refused so
 pub data IsRefusal (d : Scoped) : Refusal → Type 0 where
@@ -54,7 +56,7 @@ pub data IsRefusal (d : Scoped) : Refusal → Type 0 where
   unbuilt : (names : Names) → IsMainNames d names → (AreBuilt names d.script.items → ⊥) → IsRefusal d not_built
   -- two types have no meet where one is used at the other, or a field isn't there, or arguments are too many or too few
   mistyped : (names : Names) (types : List Ty) (r : Refusal) → IsMainNames d names → AreBuilt names d.script.items
-      → BlockFault types names (main_block d.script) r → IsRefusal d r
+      → BlockFault types names (block (main_block d.script)) r → IsRefusal d r
 
 -- a refusal is one of the rules; want of memory is none
 abbrev pub IsFault : Scoped → LoadFault → Type 0

@@ -1,7 +1,10 @@
 pub mod SourcePlaces
 pub mod Members
+pub mod Operators
 pub mod Elaborates
+pub mod ElaboratesLines
 pub mod TypingFaults
+pub mod LineFaults
 pub mod BuiltForms
 pub mod HasCasts
 pub mod ClassLimits

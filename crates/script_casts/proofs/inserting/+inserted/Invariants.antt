@@ -7,6 +7,21 @@ use Rattle.script_casts.proofs.inserting.+inserted.Given as goal
 abbrev pub decreases-inserted : goal.decreases-inserted
 decreases-inserted l = 2 * expr_size l.e.now
 
+abbrev pub decreases-negative : goal.decreases-negative
+decreases-negative l = 2 * expr_size l.a.now + 1
+
+abbrev pub decreases-negation : goal.decreases-negation
+decreases-negation l = 2 * expr_size l.a.now + 1
+
+abbrev pub decreases-binary : goal.decreases-binary
+decreases-binary l = 2 * (expr_size l.a.now + expr_size l.b.now) + 1
+
+abbrev pub decreases-conjunction : goal.decreases-conjunction
+decreases-conjunction l = 2 * (expr_size l.a.now + expr_size l.b.now) + 1
+
+abbrev pub decreases-disjunction : goal.decreases-disjunction
+decreases-disjunction l = 2 * (expr_size l.a.now + expr_size l.b.now) + 1
+
 abbrev pub decreases-inserted_all : goal.decreases-inserted_all
 decreases-inserted_all l = 2 * exprs_size (exprs l.es.now) + 1
 
