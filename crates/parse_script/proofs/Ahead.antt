@@ -38,7 +38,8 @@ use Rattle.parse_script.specs.declared.stage.Stage.{Stage}
 use Rattle.parse_script.specs.declared.stage.Stage.TheVariants as stage
 use Rattle.parse_script.specs.declared.stage.Use.{Use}
 use Rattle.parse_script.specs.declared.stage.Use.TheVariants as for_
-use Rattle.parse_script.specs.Reading.{added, added_stage, ending_of, behind_used, behind_found, inside_next, inside_step, inside, listed_stage, behind_argument, found_argument, argument_next, argument_step, listing_at, listing_step, plain_found, plain_next, plain_on, plain_held, plain_at, plain_step, dotted_step, attribute_step, target_at, target_step, named_at, named_step, assigning_at, assigning_step, typed_end, typed_next, typed_step, returning_at, returning_step}
+use Rattle.parse_script.specs.Reading.{added, added_stage, behind_used, behind_found, inside_next, inside_step, inside, listed_stage, behind_argument, found_argument, argument_next, argument_step, listing_at, listing_step, plain_found, plain_next, plain_on, plain_held, plain_at, plain_step, dotted_step, attribute_step, target_at, target_step, named_at, named_step, assigning_at, assigning_step, typed_end, typed_next, typed_step, returning_at, returning_step}
+use Rattle.parse_script.specs.Endings.{ending_of}
 use Rattle.parse_script.specs.Statements.{heaviest}
 use Rattle.parse_script.proofs.Rest.{Rest, RestAt, Next, NextName, Ends, NextExpr, NextType, RestLine, RestUse, RestInside, RestListed, RestListing, RestArgument, RestValue, RestTarget, RestPlain, RestAttribute, RestAssigning, RestTyped, RestNamed}
 use Rattle.parse_script.proofs.Steps.{none_some, some_is, nil_cons, head_is, tail_is}

@@ -31,7 +31,8 @@ use Rattle.parse_script.specs.declared.stage.Stage.{Stage}
 use Rattle.parse_script.specs.declared.stage.Stage.TheVariants as stage
 use Rattle.parse_script.specs.declared.stage.Use.{Use}
 use Rattle.parse_script.specs.declared.stage.Use.TheVariants as for_
-use Rattle.parse_script.specs.Reading.{added, added_stage, ending_of, inside_step, inside, plain_found, plain_next, plain_on, plain_held, plain_at, plain_step, dotted_step, attribute_step, target_at, target_step, named_at, named_step, assigning_at, assigning_step, typed_end, typed_next, typed_step, returning_at, returning_step}
+use Rattle.parse_script.specs.Reading.{added, added_stage, inside_step, inside, plain_found, plain_next, plain_on, plain_held, plain_at, plain_step, dotted_step, attribute_step, target_at, target_step, named_at, named_step, assigning_at, assigning_step, typed_end, typed_next, typed_step, returning_at, returning_step}
+use Rattle.parse_script.specs.Endings.{ending_of}
 use Rattle.parse_script.specs.Statements.{heaviest}
 use Rattle.parse_script.proofs.Ahead.{On, on_at, unnext, unname, ExprOn, ExprEnd, unexpr, TypeOn, TypeEnd, untype, mark_stops, inside_on}
 use Rattle.parse_script.proofs.Rest.{Rest, RestAt, Next, NextName, Ends, NextExpr, NextType, RestLine, RestInside, RestValue, RestTarget, RestPlain, RestAttribute, RestAssigning, RestTyped, RestNamed}
@@ -262,14 +263,14 @@ named_ahead a x t ts all (inr (inr r)) =
 pub typed_ahead : (a : Around) (x : Word) (m : TypeMode) (t : Spelled) (ts : List Spelled) (all : List Item) → RestTyped a x m (t ∷ ts) all → On (typed_step a x m t) ts all
 typed_ahead a x m t ts all r =
     elim (untype m (λ u us. Next (what.Mark mark.Equals) (λ p vs. RestInside a (for_.Assign x (Some u)) (mode.Want []) vs all) us) t ts r) [
-      | inl y ↦ record { next = stage.Typed a x y.next; step_is = ap (typed_next a x (type_finish m) t.what) y.step_is; rest = y.rest }
+      | inl y ↦ record { next = stage.Typed a x y.next; step_is = ap (typed_next a x (type_finish m) (ending_of t.what)) y.step_is; rest = y.rest }
       | inr y ↦ (
       let n = unnext (what.Mark mark.Equals) _ t ts y.rest in
       let stops : type_step heaviest (type_mode.Have [] y.tree y.weight) t ≡ None = ap (type_behind [] y.tree y.weight) n.0 in
       record {
         next = inside a (for_.Assign x (Some y.tree));
-        step_is = ap (λ (k : TypeMode). typed_step a x k t) y.mode_is ∙ ap (typed_next a x (Some (record { ann = y.tree; weight = y.weight })) t.what) stops
-            ∙ ap (typed_end a x (Some (record { ann = y.tree; weight = y.weight }))) n.0;
+        step_is = ap (λ (k : TypeMode). typed_step a x k t) y.mode_is ∙ ap (typed_next a x (Some (record { ann = y.tree; weight = y.weight })) (ending_of t.what)) stops
+            ∙ ap (λ (v : What). typed_end a x (Some (record { ann = y.tree; weight = y.weight })) (ending_of v)) n.0;
         rest = n.1;
       })
     ]

@@ -37,7 +37,8 @@ use Rattle.parse_script.specs.declared.stage.Stage.{Stage}
 use Rattle.parse_script.specs.declared.stage.Stage.TheVariants as stage
 use Rattle.parse_script.specs.declared.stage.Use.{Use}
 use Rattle.parse_script.specs.declared.stage.Use.TheVariants as for_
-use Rattle.parse_script.specs.Reading.{added, added_stage, ending_of, behind_used, behind_found, inside_next, inside_step, inside, listed_stage, behind_argument, found_argument, argument_next, argument_step, listing_at, listing_step, plain_found, plain_next, plain_on, plain_held, plain_at, plain_step, dotted_step, attribute_step, target_at, target_step, named_at, named_step, assigning_at, assigning_step, typed_end, typed_next, typed_step, returning_at, returning_step}
+use Rattle.parse_script.specs.Reading.{added, added_stage, behind_used, behind_found, inside_next, inside_step, inside, listed_stage, behind_argument, found_argument, argument_next, argument_step, listing_at, listing_step, plain_found, plain_next, plain_on, plain_held, plain_at, plain_step, dotted_step, attribute_step, target_at, target_step, named_at, named_step, assigning_at, assigning_step, typed_end, typed_next, typed_step, returning_at, returning_step}
+use Rattle.parse_script.specs.Endings.{ending_of}
 use Rattle.parse_script.specs.Statements.{heaviest}
 use Rattle.parse_script.proofs.Live.{Live, held_light, named_goes, named_reached, dot_goes, field_goes, attribute_reached}
 use Rattle.parse_script.proofs.Rest.{Rest, RestAt, Next, NextName, Ends, NextExpr, NextType, RestLine, RestUse, RestInside, RestListed, RestListing, RestArgument, RestValue, RestTarget, RestPlain, RestAttribute, RestStarted, RestAssigning, RestTyped, RestNamed}
@@ -226,7 +227,7 @@ named_sound a x t n h =
       ]
     ]
 
-at_typed : (a : Around) (x : Word) (o : Option Weighed) (w : What) (n : Stage) → typed_end a x o w ≡ Some n
+at_typed : (a : Around) (x : Word) (o : Option Weighed) (w : What) (n : Stage) → typed_end a x o (ending_of w) ≡ Some n
     → (y : Weighed) × (o ≡ Some y) × (w ≡ what.Mark mark.Equals) × (inside a (for_.Assign x (Some y.ann)) ≡ n)
 at_typed a x (Some y) (what.Mark mark.Equals) n h = (y, refl, refl, some_is h)
 at_typed a x (Some y) w n h = none_some _ h
@@ -236,10 +237,10 @@ pub typed_sound : (a : Around) (x : Word) (m : TypeMode) (t : Spelled) (n : Stag
 typed_sound a x m t n r h =
     split_option (type_step heaviest m t) (Sound (λ ts all. RestTyped a x m ts all) t n)
     (λ e.
-    let f = at_typed a x (type_finish m) t.what n (sym (ap (typed_next a x (type_finish m) t.what) e) ∙ h) in
+    let f = at_typed a x (type_finish m) t.what n (sym (ap (typed_next a x (type_finish m) (ending_of t.what)) e) ∙ h) in
     sound_at _ t (inside a (for_.Assign x (Some (f.0).ann))) n f.3 (record { live = begins; back = λ ts all q. type_end m f.0 _ (t ∷ ts) f.1 (next_is (what.Mark mark.Equals) _ t ts f.2 q) }))
     (λ k e.
-    sound_at _ t (stage.Typed a x k) n (some_is (sym (ap (typed_next a x (type_finish m) t.what) e) ∙ h))
+    sound_at _ t (stage.Typed a x k) n (some_is (sym (ap (typed_next a x (type_finish m) (ending_of t.what)) e) ∙ h))
     (record { live = reached_more m k t r e; back = λ ts all q. type_back m k t _ ts e q }))
 
 at_assigning : (a : Around) (x : Word) (w : What) (s : Option Stage) (n : Stage) → assigning_at a x w s ≡ Some n

@@ -23,6 +23,7 @@ use Rattle.parse_script.specs.declared.stage.ClassStage.{ClassStage}
 use Rattle.parse_script.specs.declared.stage.ClassStage.TheVariants as stage
 use Rattle.parse_script.specs.ClassReading.{class_def, field_def, class_word, class_name, class_colon, class_line, class_body, class_pass, class_pass_line, class_field, field_end, class_type, class_fields, class_step}
 use Rattle.parse_script.specs.Definitions.{DerivesField, field, DerivesFields, one_field, more_fields, DerivesClass, no_fields, fields}
+use Rattle.parse_script.specs.Endings.{ending_of}
 use Rattle.parse_script.specs.Statements.{heaviest}
 use Rattle.parse_script.proofs.Steps.{here, none_some, some_is, head_is, split_option, type_finished, one}
 use Rattle.parse_expr.proofs.Readings.{type_goes, type_sound, type_alive}
@@ -38,7 +39,7 @@ type_go w fs x a v r m [] g =
 type_go w fs x a v r m (t ∷ ts) g =
     let c = goes_cons (type_step heaviest) g in
     go (stage.Type w fs x m) (stage.Type w fs x c.0) (stage.Fields w (fs ++ (field_def x a ∷ []))) t (ts ++ (sign mark.Newline r ∷ []))
-    (ap (class_type w fs x (type_finish m) t.what) c.1) (type_go w fs x a v r c.0 ts c.2)
+    (ap (class_type w fs x (type_finish m) (ending_of t.what)) c.1) (type_go w fs x a v r c.0 ts c.2)
 
 field_go : (w : Word) (fs : List FieldDef) (x : Word) (q r : Place) (ts : List Spelled) (a : Ann) → IsType heaviest ts a
     → Goes class_step (stage.Field w fs x) (sign mark.Colon q ∷ (ts ++ (sign mark.Newline r ∷ []))) (stage.Fields w (fs ++ (field_def x a ∷ [])))
@@ -221,7 +222,7 @@ at_fields w fs p (what.Name x) n e = inl (record { name = x; token = refl; next 
 at_fields w fs p (what.Mark mark.Dedent) n e = inr (refl, sym (some_is e))
 at_fields w fs p t n e = none_some _ e
 
-pub at_field_end : (w : Word) (fs : List FieldDef) (x : Word) (o : Option Weighed) (t : What) (n : ClassStage) → field_end w fs x o t ≡ Some n
+pub at_field_end : (w : Word) (fs : List FieldDef) (x : Word) (o : Option Weighed) (t : What) (n : ClassStage) → field_end w fs x o (ending_of t) ≡ Some n
     → (a : Weighed) × (o ≡ Some a) × Marked mark.Newline (stage.Fields w (fs ++ (field_def x a.ann ∷ []))) t n
 at_field_end w fs x (Some a) (what.Mark mark.Newline) n e = (a, refl, (refl, sym (some_is e)))
 at_field_end w fs x (Some a) t n e = none_some _ e
@@ -266,7 +267,7 @@ mutual
       let s = stepped (stage.Type w fs x m) t ts c g in
       split_option (type_step heaviest m t) (TypeRest w fs x m (t ∷ ts) c)
       (λ e.
-      let n = at_field_end w fs x (type_finish m) t.what s.next (sym (ap (class_type w fs x (type_finish m) t.what) e) ∙ s.step_is) in
+      let n = at_field_end w fs x (type_finish m) t.what s.next (sym (ap (class_type w fs x (type_finish m) (ending_of t.what)) e) ∙ s.step_is) in
       let r = fields_left w (fs ++ (field_def x (n.0).ann ∷ [])) ts c (subst (λ (z : ClassStage). Goes class_step z ts (stage.Done c)) (n.2).1 s.run) in
       record {
         part = [];
@@ -279,7 +280,7 @@ mutual
         rest = r;
       })
       (λ k e.
-      let same : stage.Type w fs x k ≡ s.next = some_is (sym (ap (class_type w fs x (type_finish m) t.what) e) ∙ s.step_is) in
+      let same : stage.Type w fs x k ≡ s.next = some_is (sym (ap (class_type w fs x (type_finish m) (ending_of t.what)) e) ∙ s.step_is) in
       let r = type_left w fs x k ts c (subst (λ (z : ClassStage). Goes class_step z ts (stage.Done c)) (sym same) s.run) in
       record {
         part = t ∷ r.part;

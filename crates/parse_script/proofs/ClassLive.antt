@@ -15,6 +15,7 @@ use Rattle.parse_expr.proofs.Goes.{then}
 use Rattle.parse_script.specs.declared.stage.ClassStage.{ClassStage}
 use Rattle.parse_script.specs.declared.stage.ClassStage.TheVariants as stage
 use Rattle.parse_script.specs.ClassReading.{class_def, field_def, class_type, class_step}
+use Rattle.parse_script.specs.Endings.{ending_of}
 use Rattle.parse_script.specs.Statements.{heaviest}
 use Rattle.parse_script.proofs.Steps.{here, none_some, some_is, split_option, one, ReachedType, reached_more, reached_start}
 use Rattle.parse_script.proofs.ClassExact.{type_go, pass_go, at_name, at_colon, at_line, at_pass, at_pass_line, at_field, at_word, at_body, at_fields, at_field_end}
@@ -103,8 +104,8 @@ class_live (stage.PassLine w) t n l e = moved n (stage.Done (class_def w [])) (a
 class_live (stage.Field w fs x) t n l e = moved n (stage.Type w fs x (type_mode.Want [])) (at_field w fs x t.what n e).1 reached_start
 class_live (stage.Type w fs x m) t n l e =
     split_option (type_step heaviest m t) (LiveOrDone n)
-    (λ i. let a = at_field_end w fs x (type_finish m) t.what n (sym (ap (class_type w fs x (type_finish m) t.what) i) ∙ e) in moved n (stage.Fields w (fs ++ (field_def x (a.0).ann ∷ []))) (a.2).1 tt)
-    (λ k i. moved n (stage.Type w fs x k) (sym (some_is (sym (ap (class_type w fs x (type_finish m) t.what) i) ∙ e))) (reached_more m k t l i))
+    (λ i. let a = at_field_end w fs x (type_finish m) t.what n (sym (ap (class_type w fs x (type_finish m) (ending_of t.what)) i) ∙ e) in moved n (stage.Fields w (fs ++ (field_def x (a.0).ann ∷ []))) (a.2).1 tt)
+    (λ k i. moved n (stage.Type w fs x k) (sym (some_is (sym (ap (class_type w fs x (type_finish m) (ending_of t.what)) i) ∙ e))) (reached_more m k t l i))
 class_live (stage.Fields w fs) t n l e =
     elim (at_fields w fs t.place t.what n e) [
       | inl a ↦ moved n (stage.Field w fs (record { text = a.name; place = t.place })) a.next tt

@@ -23,6 +23,7 @@ use Rattle.parse_script.specs.declared.stage.DefStage.{DefStage}
 use Rattle.parse_script.specs.declared.stage.DefStage.TheVariants as stage
 use Rattle.parse_script.specs.DefReading.{def_head, param, def_word, def_name, def_params, behind_param, def_param, param_end, def_type, def_closed, result_end, def_result, def_colon, def_line, def_step}
 use Rattle.parse_script.specs.Definitions.{DerivesParam, bare, typed, DerivesParams, no_params, last_param, more_params, DerivesResult, no_result, result}
+use Rattle.parse_script.specs.Endings.{ending_of}
 use Rattle.parse_script.specs.Statements.{heaviest}
 use Rattle.parse_script.proofs.Steps.{here, none_some, some_is, head_is, split_option, type_finished, one}
 use Rattle.parse_expr.proofs.Readings.{type_goes, type_sound}
@@ -31,8 +32,8 @@ use Rattle.parse_expr.proofs.Readings.{type_goes, type_sound}
 
 -- a token that may stand behind a parameter, and the stage behind it
 pub record Ends (w : Word) (t : Spelled) (next : List Param → DefStage) : Type 0 where
-  pub behind : (ys : List Param) → behind_param w ys t.what ≡ Some (next ys)
-  pub bare_behind : (xs : List Param) (x : Word) → def_param w xs x t.what ≡ behind_param w (xs ++ (param x None ∷ [])) t.what
+  pub behind : (ys : List Param) → behind_param w ys (ending_of t.what) ≡ Some (next ys)
+  pub bare_behind : (xs : List Param) (x : Word) → def_param w xs x (ending_of t.what) ≡ behind_param w (xs ++ (param x None ∷ [])) (ending_of t.what)
 
 pub comma_ends : (w : Word) (p : Place) → Ends w (tok what.Comma p) (λ ys. stage.Params w ys)
 comma_ends w p = record { behind = λ ys. refl; bare_behind = λ xs x. refl }
@@ -46,11 +47,11 @@ pub type_go : (w : Word) (xs : List Param) (x : Word) (a : Ann) (v : ℕ) (t : S
 type_go w xs x a v t next e m [] g n =
     let same : m ≡ type_mode.Have [] a v = goes_nil (type_step heaviest) g in
     one def_step (stage.Type w xs x m) (next (xs ++ (param x (Some a) ∷ []))) t
-    (ap (λ k. def_step (stage.Type w xs x k) t) same ∙ ap (def_type w xs x (type_finish (type_mode.Have [] a v)) t.what) n ∙ e.behind (xs ++ (param x (Some a) ∷ [])))
+    (ap (λ k. def_step (stage.Type w xs x k) t) same ∙ ap (def_type w xs x (type_finish (type_mode.Have [] a v)) (ending_of t.what)) n ∙ e.behind (xs ++ (param x (Some a) ∷ [])))
 type_go w xs x a v t next e m (u ∷ ts) g n =
     let c = goes_cons (type_step heaviest) g in
     go (stage.Type w xs x m) (stage.Type w xs x c.0) (next (xs ++ (param x (Some a) ∷ []))) u (ts ++ (t ∷ []))
-    (ap (def_type w xs x (type_finish m) u.what) c.1) (type_go w xs x a v t next e c.0 ts c.2 n)
+    (ap (def_type w xs x (type_finish m) (ending_of u.what)) c.1) (type_go w xs x a v t next e c.0 ts c.2 n)
 
 param_go : (w : Word) (xs : List Param) (ts : List Spelled) (y : Param) (t : Spelled) (next : List Param → DefStage) → Ends w t next
     → ((a : Ann) (v : ℕ) → type_step heaviest (type_mode.Have [] a v) t ≡ None) → DerivesParam ts y
@@ -86,7 +87,7 @@ result_type_go w xs a v p m [] g =
 result_type_go w xs a v p m (u ∷ ts) g =
     let c = goes_cons (type_step heaviest) g in
     go (stage.Result w xs m) (stage.Result w xs c.0) (stage.Colon (def_head w xs (Some a))) u (ts ++ (sign mark.Colon p ∷ []))
-    (ap (def_result w xs (type_finish m) u.what) c.1) (result_type_go w xs a v p c.0 ts c.2)
+    (ap (def_result w xs (type_finish m) (ending_of u.what)) c.1) (result_type_go w xs a v p c.0 ts c.2)
 
 result_go : (w : Word) (xs : List Param) (ts : List Spelled) (a : Option Ann) (p : Place) → DerivesResult ts a
     → Goes def_step (stage.Closed w xs) (ts ++ (sign mark.Colon p ∷ [])) (stage.Colon (def_head w xs a))
@@ -177,18 +178,19 @@ at_params w xs p (what.Name x) n e = inl (record { name = x; token = refl; next 
 at_params w xs p what.Close n e = inr (refl, sym (some_is e))
 at_params w xs p t n e = none_some _ e
 
-pub at_behind : (w : Word) (xs : List Param) (t : What) (n : DefStage) → behind_param w xs t ≡ Some n → Marked what.Comma (stage.Params w xs) t n ⊎ Marked what.Close (stage.Closed w xs) t n
+pub at_behind : (w : Word) (xs : List Param) (t : What) (n : DefStage) → behind_param w xs (ending_of t) ≡ Some n → Marked what.Comma (stage.Params w xs) t n ⊎ Marked what.Close (stage.Closed w xs) t n
 at_behind w xs what.Comma n e = inl (refl, sym (some_is e))
 at_behind w xs what.Close n e = inr (refl, sym (some_is e))
+at_behind w xs (what.Mark mark.Newline) n e = none_some _ e
 at_behind w xs t n e = none_some _ e
 
-pub at_param : (w : Word) (xs : List Param) (x : Word) (t : What) (n : DefStage) → def_param w xs x t ≡ Some n
-    → Marked (what.Mark mark.Colon) (stage.Type w xs x (type_mode.Want [])) t n ⊎ (behind_param w (xs ++ (param x None ∷ [])) t ≡ Some n)
+pub at_param : (w : Word) (xs : List Param) (x : Word) (t : What) (n : DefStage) → def_param w xs x (ending_of t) ≡ Some n
+    → Marked (what.Mark mark.Colon) (stage.Type w xs x (type_mode.Want [])) t n ⊎ (behind_param w (xs ++ (param x None ∷ [])) (ending_of t) ≡ Some n)
 at_param w xs x (what.Mark mark.Colon) n e = inl (refl, sym (some_is e))
 at_param w xs x t n e = inr e
 
-pub at_param_end : (w : Word) (xs : List Param) (x : Word) (o : Option Weighed) (t : What) (n : DefStage) → param_end w xs x o t ≡ Some n
-    → (a : Weighed) × (o ≡ Some a) × (behind_param w (xs ++ (param x (Some a.ann) ∷ [])) t ≡ Some n)
+pub at_param_end : (w : Word) (xs : List Param) (x : Word) (o : Option Weighed) (t : What) (n : DefStage) → param_end w xs x o (ending_of t) ≡ Some n
+    → (a : Weighed) × (o ≡ Some a) × (behind_param w (xs ++ (param x (Some a.ann) ∷ [])) (ending_of t) ≡ Some n)
 at_param_end w xs x (Some a) t n e = (a, refl, e)
 at_param_end w xs x None t n e = none_some _ e
 
@@ -198,7 +200,7 @@ at_closed w xs (what.Mark mark.Arrow) n e = inl (refl, sym (some_is e))
 at_closed w xs (what.Mark mark.Colon) n e = inr (refl, sym (some_is e))
 at_closed w xs t n e = none_some _ e
 
-pub at_result_end : (w : Word) (xs : List Param) (o : Option Weighed) (t : What) (n : DefStage) → result_end w xs o t ≡ Some n
+pub at_result_end : (w : Word) (xs : List Param) (o : Option Weighed) (t : What) (n : DefStage) → result_end w xs o (ending_of t) ≡ Some n
     → (a : Weighed) × (o ≡ Some a) × Marked (what.Mark mark.Colon) (stage.Colon (def_head w xs (Some a.ann))) t n
 at_result_end w xs (Some a) (what.Mark mark.Colon) n e = (a, refl, (refl, sym (some_is e)))
 at_result_end w xs (Some a) t n e = none_some _ e
@@ -280,7 +282,7 @@ joined w xs x ts h r =
 -- what is behind a parameter, where it is known what parameters come to
 behind_left : (w : Word) (xs : List Param) (t : Spelled) (ts : List Spelled) (h : DefHead) (n : DefStage)
     → ((ys : List Param) → Goes def_step (stage.Params w ys) ts (stage.Done h) → ParamsRest w ys ts h)
-    → behind_param w xs t.what ≡ Some n → Goes def_step n ts (stage.Done h) → CommaRest w xs (t ∷ ts) h ⊎ CloseRest w xs (t ∷ ts) h
+    → behind_param w xs (ending_of t.what) ≡ Some n → Goes def_step n ts (stage.Done h) → CommaRest w xs (t ∷ ts) h ⊎ CloseRest w xs (t ∷ ts) h
 behind_left w xs t ts h n left e g =
     elim (at_behind w xs t.what n e) [
       | inl a ↦ inl (record { place = t.place; more = ts; split = λ i. tok (a.0 i) t.place ∷ ts; rest = left xs (run_at n (stage.Params w xs) ts h a.1 g) })
@@ -340,7 +342,7 @@ mutual
       let s = stepped (stage.Type w xs x m) t ts h g in
       split_option (type_step heaviest m t) (TypeRest w xs x m (t ∷ ts) h)
       (λ e.
-      let n = at_param_end w xs x (type_finish m) t.what s.next (sym (ap (def_type w xs x (type_finish m) t.what) e) ∙ s.step_is) in
+      let n = at_param_end w xs x (type_finish m) t.what s.next (sym (ap (def_type w xs x (type_finish m) (ending_of t.what)) e) ∙ s.step_is) in
       record {
         part = [];
         weight = (n.0).weight;
@@ -351,7 +353,7 @@ mutual
         rest = behind_left w (xs ++ (param x (Some (n.0).ann) ∷ [])) t ts h s.next (λ ys g'. params_left w ys ts h g') n.2 s.run;
       })
       (λ k e.
-      let same : stage.Type w xs x k ≡ s.next = some_is (sym (ap (def_type w xs x (type_finish m) t.what) e) ∙ s.step_is) in
+      let same : stage.Type w xs x k ≡ s.next = some_is (sym (ap (def_type w xs x (type_finish m) (ending_of t.what)) e) ∙ s.step_is) in
       let r = type_left w xs x k ts h (run_at s.next (stage.Type w xs x k) ts h (sym same) s.run) in
       record {
         part = t ∷ r.part;
@@ -389,7 +391,7 @@ result_left w xs m (t ∷ ts) h g =
     let s = stepped (stage.Result w xs m) t ts h g in
     split_option (type_step heaviest m t) (ResultTypeRest w xs m (t ∷ ts) h)
     (λ e.
-    let n = at_result_end w xs (type_finish m) t.what s.next (sym (ap (def_result w xs (type_finish m) t.what) e) ∙ s.step_is) in
+    let n = at_result_end w xs (type_finish m) t.what s.next (sym (ap (def_result w xs (type_finish m) (ending_of t.what)) e) ∙ s.step_is) in
     record {
       part = [];
       weight = (n.0).weight;
@@ -401,7 +403,7 @@ result_left w xs m (t ∷ ts) h g =
       run = run_at s.next (stage.Colon (def_head w xs (Some (n.0).ann))) ts h (n.2).1 s.run;
     })
     (λ k e.
-    let same : stage.Result w xs k ≡ s.next = some_is (sym (ap (def_result w xs (type_finish m) t.what) e) ∙ s.step_is) in
+    let same : stage.Result w xs k ≡ s.next = some_is (sym (ap (def_result w xs (type_finish m) (ending_of t.what)) e) ∙ s.step_is) in
     let r = result_left w xs k ts h (run_at s.next (stage.Result w xs k) ts h (sym same) s.run) in
     record {
       part = t ∷ r.part;

@@ -16,6 +16,7 @@ use Rattle.parse_script.specs.declared.stage.DefHead.{DefHead}
 use Rattle.parse_script.specs.declared.stage.DefStage.{DefStage}
 use Rattle.parse_script.specs.declared.stage.DefStage.TheVariants as stage
 use Rattle.parse_script.specs.DefReading.{def_head, param, behind_param, def_type, def_result, def_step}
+use Rattle.parse_script.specs.Endings.{ending_of}
 use Rattle.parse_script.specs.Statements.{heaviest}
 use Rattle.parse_script.proofs.Steps.{here, some_is, split_option, one, ReachedType, reached_more, reached_start}
 use Rattle.parse_script.proofs.DefExact.{type_go, result_type_go, line_go, close_ends, at_word, at_name, at_colon, at_line, at_params, at_behind, at_param, at_param_end, at_closed, at_result_end}
@@ -84,7 +85,7 @@ LiveOrDone _ = Unit {0}
 moved : (n k : DefStage) → n ≡ k → LiveOrDone k → LiveOrDone n
 moved n k e l = subst LiveOrDone (sym e) l
 
-behind_live : (w : Word) (xs : List Param) (t : What) (n : DefStage) → behind_param w xs t ≡ Some n → LiveOrDone n
+behind_live : (w : Word) (xs : List Param) (t : What) (n : DefStage) → behind_param w xs (ending_of t) ≡ Some n → LiveOrDone n
 behind_live w xs t n e = elim (at_behind w xs t n e) [ inl a ↦ moved n (stage.Params w xs) a.1 tt | inr a ↦ moved n (stage.Closed w xs) a.1 tt ]
 
 pub def_live : (s : DefStage) (t : Spelled) (n : DefStage) → LiveDef s → def_step s t ≡ Some n → LiveOrDone n
@@ -99,14 +100,14 @@ def_live (stage.Param w xs x) t n l e =
     elim (at_param w xs x t.what n e) [ inl a ↦ moved n (stage.Type w xs x (type_mode.Want [])) a.1 reached_start | inr i ↦ behind_live w (xs ++ (param x None ∷ [])) t.what n i ]
 def_live (stage.Type w xs x m) t n l e =
     split_option (type_step heaviest m t) (LiveOrDone n)
-    (λ i. let a = at_param_end w xs x (type_finish m) t.what n (sym (ap (def_type w xs x (type_finish m) t.what) i) ∙ e) in behind_live w (xs ++ (param x (Some (a.0).ann) ∷ [])) t.what n a.2)
-    (λ k i. moved n (stage.Type w xs x k) (sym (some_is (sym (ap (def_type w xs x (type_finish m) t.what) i) ∙ e))) (reached_more m k t l i))
+    (λ i. let a = at_param_end w xs x (type_finish m) t.what n (sym (ap (def_type w xs x (type_finish m) (ending_of t.what)) i) ∙ e) in behind_live w (xs ++ (param x (Some (a.0).ann) ∷ [])) t.what n a.2)
+    (λ k i. moved n (stage.Type w xs x k) (sym (some_is (sym (ap (def_type w xs x (type_finish m) (ending_of t.what)) i) ∙ e))) (reached_more m k t l i))
 def_live (stage.Closed w xs) t n l e =
     elim (at_closed w xs t.what n e) [ inl a ↦ moved n (stage.Result w xs (type_mode.Want [])) a.1 reached_start | inr a ↦ moved n (stage.Colon (def_head w xs None)) a.1 tt ]
 def_live (stage.Result w xs m) t n l e =
     split_option (type_step heaviest m t) (LiveOrDone n)
-    (λ i. let a = at_result_end w xs (type_finish m) t.what n (sym (ap (def_result w xs (type_finish m) t.what) i) ∙ e) in moved n (stage.Colon (def_head w xs (Some (a.0).ann))) (a.2).1 tt)
-    (λ k i. moved n (stage.Result w xs k) (sym (some_is (sym (ap (def_result w xs (type_finish m) t.what) i) ∙ e))) (reached_more m k t l i))
+    (λ i. let a = at_result_end w xs (type_finish m) t.what n (sym (ap (def_result w xs (type_finish m) (ending_of t.what)) i) ∙ e) in moved n (stage.Colon (def_head w xs (Some (a.0).ann))) (a.2).1 tt)
+    (λ k i. moved n (stage.Result w xs k) (sym (some_is (sym (ap (def_result w xs (type_finish m) (ending_of t.what)) i) ∙ e))) (reached_more m k t l i))
 def_live (stage.Colon h) t n l e = moved n (stage.Line h) (at_colon h t.what n e).1 tt
 def_live (stage.Line h) t n l e = moved n (stage.Done h) (at_line h t.what n e).1 tt
 def_live (stage.Done h) t n l e = absurd l

@@ -19,6 +19,9 @@ use Rattle.parse_script.specs.declared.stage.ClassStage.{ClassStage}
 use Rattle.parse_script.specs.declared.stage.ClassStage.TheVariants as stage
 use Rattle.parse_script.specs.declared.stage.ClassTurn.{ClassTurn}
 use Rattle.parse_script.specs.declared.stage.ClassTurn.TheVariants as turn
+use Rattle.parse_script.specs.declared.stage.Ending.{Ending}
+use Rattle.parse_script.specs.declared.stage.Ending.TheVariants as ending
+use Rattle.parse_script.specs.Endings.{ending_of}
 use Rattle.parse_script.specs.Statements.{heaviest}
 
 abbrev pub class_def : Word → List FieldDef → ClassDef
@@ -62,14 +65,14 @@ abbrev pub class_field : Word → List FieldDef → Word → What → Option Cla
 class_field w fs x (what.Mark mark.Colon) = Some (stage.Type w fs x (type_mode.Want []))
 class_field w fs x _ = None
 
-abbrev pub field_end : Word → List FieldDef → Word → Option Weighed → What → Option ClassStage
-field_end w fs x (Some a) (what.Mark mark.Newline) = Some (stage.Fields w (fs ++ (field_def x a.ann ∷ [])))
+abbrev pub field_end : Word → List FieldDef → Word → Option Weighed → Ending → Option ClassStage
+field_end w fs x (Some a) ending.Newline = Some (stage.Fields w (fs ++ (field_def x a.ann ∷ [])))
 field_end w fs x _ _ = None
 
 -- in the type of a field: the type goes on, or ends
-abbrev pub class_type : Word → List FieldDef → Word → Option Weighed → What → Option TypeMode → Option ClassStage
-class_type w fs x o t (Some m) = Some (stage.Type w fs x m)
-class_type w fs x o t None = field_end w fs x o t
+abbrev pub class_type : Word → List FieldDef → Word → Option Weighed → Ending → Option TypeMode → Option ClassStage
+class_type w fs x o n (Some m) = Some (stage.Type w fs x m)
+class_type w fs x o n None = field_end w fs x o n
 
 abbrev pub class_fields : Word → List FieldDef → Place → What → Option ClassStage
 class_fields w fs p (what.Name x) = Some (stage.Field w fs (word x p))
@@ -85,7 +88,7 @@ class_step (stage.Body w) t = class_body w t.place t.what
 class_step (stage.Pass w) t = class_pass w t.what
 class_step (stage.PassLine w) t = class_pass_line w t.what
 class_step (stage.Field w fs x) t = class_field w fs x t.what
-class_step (stage.Type w fs x m) t = class_type w fs x (type_finish m) t.what (type_step heaviest m t)
+class_step (stage.Type w fs x m) t = class_type w fs x (type_finish m) (ending_of t.what) (type_step heaviest m t)
 class_step (stage.Fields w fs) t = class_fields w fs t.place t.what
 class_step (stage.Done c) t = None
 

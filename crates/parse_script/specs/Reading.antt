@@ -51,6 +51,7 @@ use Rattle.parse_script.specs.declared.stage.Use.{Use}
 use Rattle.parse_script.specs.declared.stage.Use.TheVariants as for_
 use Rattle.parse_script.specs.ClassReading.{class_step, IsLightClass}
 use Rattle.parse_script.specs.DefReading.{def_step, IsLightDef}
+use Rattle.parse_script.specs.Endings.{ending_of}
 use Rattle.parse_script.specs.Statements.{heaviest, deepest, branch}
 
 -- ---- where statements stand
@@ -121,19 +122,6 @@ def_at (floor.Script is) [] = Some (stage.Def is def_stage.Word)
 def_at _ _ = None
 
 -- ---- what stands behind an expression
-
-abbrev pub mark_ending : Mark → Ending
-mark_ending mark.Newline = ending.Newline
-mark_ending mark.Colon = ending.Colon
-mark_ending mark.Equals = ending.Equals
-mark_ending _ = ending.Other
-
-abbrev pub ending_of : What → Ending
-ending_of what.Comma = ending.Comma
-ending_of what.Close = ending.Close
-ending_of what.Dot = ending.Dot
-ending_of (what.Mark m) = mark_ending m
-ending_of _ = ending.Other
 
 abbrev pub stage_if : Bool → Stage → Option Stage
 stage_if true s = Some s
@@ -259,16 +247,16 @@ assigning_at a x _ o = o
 abbrev pub assigning_step : Around → Word → Spelled → Option Stage
 assigning_step a x t = assigning_at a x t.what (inside_step a (for_.Assign x None) (mode.Want []) t)
 
-abbrev pub typed_end : Around → Word → Option Weighed → What → Option Stage
-typed_end a x (Some t) (what.Mark mark.Equals) = Some (inside a (for_.Assign x (Some t.ann)))
+abbrev pub typed_end : Around → Word → Option Weighed → Ending → Option Stage
+typed_end a x (Some t) ending.Equals = Some (inside a (for_.Assign x (Some t.ann)))
 typed_end a x _ _ = None
 
-abbrev pub typed_next : Around → Word → Option Weighed → What → Option TypeMode → Option Stage
+abbrev pub typed_next : Around → Word → Option Weighed → Ending → Option TypeMode → Option Stage
 typed_next a x o w (Some m) = Some (stage.Typed a x m)
 typed_next a x o w None = typed_end a x o w
 
 abbrev pub typed_step : Around → Word → TypeMode → Spelled → Option Stage
-typed_step a x m t = typed_next a x (type_finish m) t.what (type_step heaviest m t)
+typed_step a x m t = typed_next a x (type_finish m) (ending_of t.what) (type_step heaviest m t)
 
 abbrev pub returning_at : Around → Place → What → Option Stage → Option Stage
 returning_at a p (what.Mark mark.Newline) o = Some (added_stage a (stmt.give p None))
