@@ -180,8 +180,8 @@ inside_on a u m t ts all r =
 -- ---- arguments
 
 pub listed_on : (a : Around) (l : Listed) (es : List Expr) (ts : List Spelled) (all : List Item) → RestListed a l es ts all → On (listed_stage a l es) ts all
-listed_on a (listed.Print p) es ts all r = record { next = stage.Line a (stmt.print p (exprs es)); step_is = refl; rest = r }
-listed_on a (listed.Start x p) (e ∷ es) ts all r = record { next = stage.Line a (stmt.start x p e (exprs es)); step_is = refl; rest = r }
+listed_on a (listed.Print p) es ts all r = record { next = stage.Line (added a (stmt.print p (exprs es))); step_is = refl; rest = r }
+listed_on a (listed.Start x p) (e ∷ es) ts all r = record { next = stage.Line (added a (stmt.start x p e (exprs es))); step_is = refl; rest = r }
 listed_on a (listed.Start x p) [] ts all r = absurd r
 
 behind_on : (a : Around) (l : Listed) (es : List Expr) (m : Mode) (e : Expr) (t : Spelled) (ts : List Spelled) (all : List Item) → finish m ≡ Some e → RestArgument a l es (t ∷ ts) all

@@ -279,7 +279,7 @@ typed_ahead a x m t ts all r =
 word_begins_none : (a : Around) (u : Use) (t : Spelled) (x : Mark) → t.what ≡ what.Mark x → inside_step a u (mode.Want []) t ≡ None
 word_begins_none a u t x i = ap (λ (w : What). inside_step a u (mode.Want []) (tok w t.place)) i
 
-assigning_pass : (a : Around) (x : Word) (w : What) → (w ≡ what.Mark mark.Start) ⊎ ((s : Option Stage) → assigning_at a x w s ≡ s)
+assigning_pass : (a : Around) (x : Word) (w : What) → (w ≡ what.Mark mark.Start) ⊎ ((s : Option Stage) → assigning_at a x (ending_of w) s ≡ s)
 assigning_pass a x (what.Mark mark.Start) = inl refl
 assigning_pass a x w = inr (λ s. refl)
 
@@ -292,16 +292,16 @@ assigning_ahead a x t ts all (inl r) =
     ]
 assigning_ahead a x t ts all (inr r) =
     let n = unnext (what.Mark mark.Start) _ t ts r in
-    record { next = stage.StartWord a x; step_is = ap (λ (v : What). assigning_at a x v (inside_step a (for_.Assign x None) (mode.Want []) t)) n.0; rest = n.1 }
+    record { next = stage.StartWord a x; step_is = ap (λ (v : What). assigning_at a x (ending_of v) (inside_step a (for_.Assign x None) (mode.Want []) t)) n.0; rest = n.1 }
 
-returning_pass : (a : Around) (p : Place) (w : What) → (w ≡ what.Mark mark.Newline) ⊎ ((s : Option Stage) → returning_at a p w s ≡ s)
+returning_pass : (a : Around) (p : Place) (w : What) → (w ≡ what.Mark mark.Newline) ⊎ ((s : Option Stage) → returning_at a p (ending_of w) s ≡ s)
 returning_pass a p (what.Mark mark.Newline) = inl refl
 returning_pass a p w = inr (λ s. refl)
 
 pub returning_ahead : (a : Around) (p : Place) (t : Spelled) (ts : List Spelled) (all : List Item) → Rest (stage.Returning a p) (t ∷ ts) all → On (returning_step a p t) ts all
 returning_ahead a p t ts all (inl r) =
     let n = unnext (what.Mark mark.Newline) _ t ts r in
-    record { next = added_stage a (stmt.give p None); step_is = ap (λ (v : What). returning_at a p v (inside_step a (for_.Return p) (mode.Want []) t)) n.0; rest = n.1 }
+    record { next = added_stage a (stmt.give p None); step_is = ap (λ (v : What). returning_at a p (ending_of v) (inside_step a (for_.Return p) (mode.Want []) t)) n.0; rest = n.1 }
 returning_ahead a p t ts all (inr r) =
     let q = inside_on a (for_.Return p) (mode.Want []) t ts all r in
     elim (returning_pass a p t.what) [

@@ -48,6 +48,7 @@ use Rattle.parse_script.specs.declared.stage.Stage.TheVariants as stage
 use Rattle.parse_script.specs.declared.stage.Use.TheVariants as for_
 use Rattle.parse_script.specs.Definitions.{DerivesDef}
 use Rattle.parse_script.specs.Definitions as defs
+use Rattle.parse_script.specs.Endings.{ending_of}
 use Rattle.parse_script.specs.Reading.{around, top, is_def, floor_depth, depth, added_to, added, added_stage, entered, func_def, left_block, left, stage_if, inside, plain_on, start_mark, start_at, start_step, behind_at, behind_step, plain_next}
 use Rattle.parse_script.specs.Statements as s
 use Rattle.parse_script.specs.Statements.{heaviest, deepest, branch, DerivesStmt, DerivesTail, DerivesBlock, DerivesStmts, indented}
@@ -170,7 +171,7 @@ plain_start a t ts all r = plain_start_at a t t.what ts all refl r
 statement_on : (a : Around) (d : ℕ) (us vs ts : List Spelled) (t : Spelled) (x : Stmt) (all : List Item) → depth a ≡ d → DerivesStmt (is_def a.floor) d us x → t ∷ ts ≡ us ++ vs → RestAt (added a x) vs all
     → On (start_step a t) ts all
 statement_on a d us vs ts t x all n (s.pass e p q) h r =
-    on_first a t (sign mark.Pass p) ts (sign mark.Newline q ∷ vs) all h (record { next = stage.Line a stmt.pass; step_is = refl; rest = line_is a stmt.pass q vs (sign mark.Newline q ∷ vs) all refl r })
+    on_first a t (sign mark.Pass p) ts (sign mark.Newline q ∷ vs) all h (record { next = stage.Line (added a stmt.pass); step_is = refl; rest = line_is a stmt.pass q vs (sign mark.Newline q ∷ vs) all refl r })
 statement_on a d us vs ts t x all n (s.give_none e p q i) h r =
     on_first a t (sign mark.Return p) ts (sign mark.Newline q ∷ vs) all h
     (record { next = stage.Returning a p; step_is = ap (λ b. stage_if b (stage.Returning a p)) i; rest = inl (line_is a (stmt.give p None) q vs (sign mark.Newline q ∷ vs) all refl r) })
@@ -303,7 +304,7 @@ start_on a t ts all r = start_on_at a.floor a.opened a.done t ts (t ∷ ts) all 
 
 -- ---- behind a block
 
-behind_pass : (a : Around) (bs : List Branch) (w : What) → ((m : Mark) × (w ≡ what.Mark m) × ((b : Around) (p : Place) → start_mark b p m ≡ None)) ⊎ ((o : Option Stage) → behind_at a bs w o ≡ o)
+behind_pass : (a : Around) (bs : List Branch) (w : What) → ((m : Mark) × (w ≡ what.Mark m) × ((b : Around) (p : Place) → start_mark b p m ≡ None)) ⊎ ((o : Option Stage) → behind_at a bs (ending_of w) o ≡ o)
 behind_pass a bs (what.Mark mark.Elif) = inl (mark.Elif, refl, λ b p. refl)
 behind_pass a bs (what.Mark mark.Else) = inl (mark.Else, refl, λ b p. refl)
 behind_pass a bs w = inr (λ o. refl)
@@ -328,14 +329,14 @@ behind_tail a d bs cs el us vs ts t all n (s.elif e p q ws y xs ss zs ks el' j k
             (behind a.floor a.opened a.done (bs ++ (branch y ss ∷ [])) ks el zs vs (zs ++ vs) all (subst (λ (m : ℕ). DerivesTail (is_def a.floor) m zs ks el) (sym n) l) refl
               (subst (λ (gs : List Branch). RestAt (added a (stmt.if_any (branches gs) el)) vs all) (sym (append_assoc bs (branch y ss ∷ []) ks)) r)))) }) in
     record { next = inside a (for_.Branch bs);
-      step_is = ap (λ (w : What). behind_at a bs w (start_step (added a (stmt.if_any (branches bs) stmt.no_else)) t)) (ap (λ (z : Spelled). z.what) (head_is h));
+      step_is = ap (λ (w : What). behind_at a bs (ending_of w) (start_step (added a (stmt.if_any (branches bs) stmt.no_else)) t)) (ap (λ (z : Spelled). z.what) (head_is h));
       rest = subst (λ (l' : List Spelled). RestInside a (for_.Branch bs) (mode.Want []) l' all) (sym (tail_is h)) rest }
 behind_tail a d bs cs el us vs ts t all n (s.otherwise e p q xs ss k) h r =
     let rest = block_is a (head.Else bs) xs vs ss all (subst (λ (m : ℕ). DerivesBlock (is_def a.floor) (suc m) xs ss) (sym n) k)
         (leaves_else a.floor a.opened a.done bs ss vs all (block_some (is_def a.floor) (suc e) xs ss k)
         (subst (λ (gs : List Branch). RestAt (added a (stmt.if_any (branches gs) (stmt.otherwise (block ss)))) vs all) (append-nil bs) r)) in
     record { next = stage.HeadColon a (head.Else bs);
-      step_is = ap (λ (w : What). behind_at a bs w (start_step (added a (stmt.if_any (branches bs) stmt.no_else)) t)) (ap (λ (z : Spelled). z.what) (head_is h));
+      step_is = ap (λ (w : What). behind_at a bs (ending_of w) (start_step (added a (stmt.if_any (branches bs) stmt.no_else)) t)) (ap (λ (z : Spelled). z.what) (head_is h));
       rest = record { place = q; more = xs ++ vs; split = tail_is h; rest = rest } }
 
 behind_on_at : (f : Floor) (k : List Opened) (done : List Stmt) (bs : List Branch) (t : Spelled) (ts us : List Spelled) (all : List Item) → us ≡ t ∷ ts → RestBehind f k done bs us all

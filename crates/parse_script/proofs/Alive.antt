@@ -175,7 +175,7 @@ alive (stage.Start a) l = at_found a
 alive (stage.Behind a bs) l =
     let f = at_found (added a (stmt.if_any (branches (bs ++ [])) stmt.no_else)) in
     record { tokens = f.tokens; items = f.items; holds = behind a.floor a.opened a.done bs [] stmt.no_else [] f.tokens f.tokens f.items (s.no_else (length a.opened + floor_depth a.floor)) refl f.holds }
-alive (stage.Line a x) l = line_found a x
+alive (stage.Line a) l = next_found (what.Mark mark.Newline) (RestAt a) (at_found a)
 alive (stage.Named a x) l =
     let f = inside_found a (for_.Assign x None) (mode.Want []) begins in
     record { tokens = sign mark.Equals here ∷ f.tokens; items = f.items; holds = inl (record { place = here; more = f.tokens; split = refl; rest = inl f.holds }) }

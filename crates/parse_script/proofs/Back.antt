@@ -243,7 +243,7 @@ typed_sound a x m t n r h =
     sound_at _ t (stage.Typed a x k) n (some_is (sym (ap (typed_next a x (type_finish m) (ending_of t.what)) e) ∙ h))
     (record { live = reached_more m k t r e; back = λ ts all q. type_back m k t _ ts e q }))
 
-at_assigning : (a : Around) (x : Word) (w : What) (s : Option Stage) (n : Stage) → assigning_at a x w s ≡ Some n
+at_assigning : (a : Around) (x : Word) (w : What) (s : Option Stage) (n : Stage) → assigning_at a x (ending_of w) s ≡ Some n
     → ((w ≡ what.Mark mark.Start) × (stage.StartWord a x ≡ n)) ⊎ (s ≡ Some n)
 at_assigning a x (what.Mark mark.Start) s n h = inl (refl, some_is h)
 at_assigning a x w s n h = inr h
@@ -257,7 +257,7 @@ assigning_sound a x t n h =
       record { live = s.live; back = λ ts all q. inl (s.back ts all q) })
     ]
 
-at_returning : (a : Around) (p : Place) (w : What) (s : Option Stage) (n : Stage) → returning_at a p w s ≡ Some n
+at_returning : (a : Around) (p : Place) (w : What) (s : Option Stage) (n : Stage) → returning_at a p (ending_of w) s ≡ Some n
     → ((w ≡ what.Mark mark.Newline) × (added_stage a (stmt.give p None) ≡ n)) ⊎ (s ≡ Some n)
 at_returning a p (what.Mark mark.Newline) s n h = inl (refl, some_is h)
 at_returning a p w s n h = inr h

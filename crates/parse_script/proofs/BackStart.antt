@@ -45,6 +45,7 @@ use Rattle.parse_script.specs.declared.stage.Stage.TheVariants as stage
 use Rattle.parse_script.specs.declared.stage.Use.TheVariants as for_
 use Rattle.parse_script.specs.Definitions.{DerivesDef}
 use Rattle.parse_script.specs.Definitions as defs
+use Rattle.parse_script.specs.Endings.{ending_of}
 use Rattle.parse_script.specs.Reading.{around, top, is_def, floor_depth, depth, added_to, added, added_stage, entered, func_def, left_block, left, end_at, class_at, def_at, stage_if, inside, plain_on, start_mark, start_at, start_step, behind_at, behind_step, class_stage_of, class_next, def_stage_of, def_next}
 use Rattle.parse_script.specs.Statements as s
 use Rattle.parse_script.specs.Statements.{heaviest, deepest, branch, DerivesStmt, DerivesTail, DerivesBlock, DerivesStmts, indented}
@@ -392,7 +393,7 @@ begun_by : (a : Around) (m : Mark) (t : Spelled) (n : Stage) → t.what ≡ what
 begun_by a m t n i l f = record { live = l; back = λ ts all r. subst (λ (u : Spelled). RestAt a (u ∷ ts) all) (λ j. tok (sym i j) t.place) (f ts all r) }
 
 mark_sound : (a : Around) (m : Mark) (t : Spelled) (n : Stage) → t.what ≡ what.Mark m → start_mark a t.place m ≡ Some n → Sound (λ ts all. RestAt a ts all) t n
-mark_sound a mark.Pass t n i h = sound_at _ t (stage.Line a stmt.pass) n (some_is h) (begun_by a mark.Pass t (stage.Line a stmt.pass) i tt (λ ts all r. pass_begun a t.place ts all r))
+mark_sound a mark.Pass t n i h = sound_at _ t (stage.Line (added a stmt.pass)) n (some_is h) (begun_by a mark.Pass t (stage.Line (added a stmt.pass)) i tt (λ ts all r. pass_begun a t.place ts all r))
 mark_sound a mark.Return t n i h =
     let e = stage_if_is (is_def a.floor) (stage.Returning a t.place) n h in
     sound_at _ t (stage.Returning a t.place) n e.1 (begun_by a mark.Return t (stage.Returning a t.place) i tt (λ ts all r. return_begun a t.place ts all e.0 r))
@@ -423,7 +424,7 @@ start_sound_at a t w o n i q h =
 pub start_sound : (a : Around) (t : Spelled) (n : Stage) → start_step a t ≡ Some n → Sound (λ ts all. RestAt a ts all) t n
 start_sound a t n h = start_sound_at a t t.what (plain_on a (mode.Want []) t) n refl refl h
 
-at_behind : (a : Around) (bs : List Branch) (t : Spelled) (w : What) (o : Option Stage) (n : Stage) → t.what ≡ w → behind_at a bs w o ≡ Some n
+at_behind : (a : Around) (bs : List Branch) (t : Spelled) (w : What) (o : Option Stage) (n : Stage) → t.what ≡ w → behind_at a bs (ending_of w) o ≡ Some n
     → (o ≡ Some n → Sound (λ ts all. RestBehind a.floor a.opened a.done bs ts all) t n) → Sound (λ ts all. RestBehind a.floor a.opened a.done bs ts all) t n
 at_behind a bs t (what.Mark mark.Elif) o n i h f =
     sound_at _ t (inside a (for_.Branch bs)) n (some_is h)

@@ -15,3 +15,6 @@ pub mod AheadStart
 pub mod StepAhead
 pub mod Alive
 pub mod Exact
+pub mod Runs
+pub mod EndOnly
+pub mod Loops

@@ -235,7 +235,7 @@ pub record RestDef (before : List Item) (m : DefStage) (ts : List Spelled) (all 
 abbrev pub Rest : Stage → List Spelled → List Item → Type 0
 Rest (stage.Start a) ts all = RestAt a ts all
 Rest (stage.Behind a bs) ts all = RestBehind a.floor a.opened a.done bs ts all
-Rest (stage.Line a s) ts all = RestLine a s ts all
+Rest (stage.Line a) ts all = Next (what.Mark mark.Newline) (λ p us. RestAt a us all) ts
 Rest (stage.Named a x) ts all = RestNamed a x ts all
 Rest (stage.Plain a m) ts all = RestPlain a m ts all
 Rest (stage.Dotted a o w) ts all = NextName (λ x us. RestAttribute a o w x us all) ts

@@ -105,7 +105,7 @@ def_ahead is m t ts (u ∷ part) more d all l g e r =
 pub step_ahead : (s : Stage) (t : Spelled) (ts : List Spelled) (all : List Item) → Live s → Rest s (t ∷ ts) all → On (script_step s t) ts all
 step_ahead (stage.Start a) t ts all l r = start_on a t ts all r
 step_ahead (stage.Behind a bs) t ts all l r = behind_on a bs t ts all r
-step_ahead (stage.Line a s) t ts all l r = let n = unnext (what.Mark mark.Newline) _ t ts r in record { next = added_stage a s; step_is = ap (line_step a s) n.0; rest = n.1 }
+step_ahead (stage.Line a) t ts all l r = let n = unnext (what.Mark mark.Newline) _ t ts r in record { next = stage.Start a; step_is = ap (line_step a) n.0; rest = n.1 }
 step_ahead (stage.Named a x) t ts all l r = named_ahead a x t ts all r
 step_ahead (stage.Plain a m) t ts all l r = plain_ahead a m t ts all r
 step_ahead (stage.Dotted a o w) t ts all l r = dotted_ahead a o w t ts all r
@@ -224,7 +224,7 @@ listing_more (x ∷ xs) ys t e = nil_cons ⊥ e
 pub at_end : (s : Stage) (all : List Item) → Rest s [] all → s ≡ stage.Ended all
 at_end (stage.Start a) all r = absurd (start_more a all r)
 at_end (stage.Behind a bs) all r = let x = rest_behind_end a.floor a.opened a.done bs [] all r in absurd (not_nil x.front (sign mark.End x.place) x.split)
-at_end (stage.Line a s) all r = absurd (next_more _ _ r)
+at_end (stage.Line a) all r = absurd (next_more _ _ r)
 at_end (stage.Named a x) all (inl r) = absurd (next_more _ _ r)
 at_end (stage.Named a x) all (inr (inl r)) = absurd (next_more _ _ r)
 at_end (stage.Named a x) all (inr (inr r)) = absurd (plain_more a _ all r)

@@ -30,9 +30,9 @@ use Rattle.parse_script.proofs.Live.{Live}
 use Rattle.parse_script.proofs.Rest.{Rest, RestClass, RestDef}
 use Rattle.parse_script.proofs.Steps.{none_some, some_is, split_option}
 
-line_sound : (a : Around) (s : Stmt) (t : Spelled) (w : What) (n : Stage) → t.what ≡ w → line_step a s w ≡ Some n → Sound (λ ts all. Rest (stage.Line a s) ts all) t n
-line_sound a s t (what.Mark mark.Newline) n i h = sound_at _ t (added_stage a s) n (some_is h) (record { live = tt; back = λ ts all r. next_is (what.Mark mark.Newline) _ t ts i r })
-line_sound a s t w n i h = none_some _ h
+line_sound : (a : Around) (t : Spelled) (w : What) (n : Stage) → t.what ≡ w → line_step a w ≡ Some n → Sound (λ ts all. Rest (stage.Line a) ts all) t n
+line_sound a t (what.Mark mark.Newline) n i h = sound_at _ t (stage.Start a) n (some_is h) (record { live = tt; back = λ ts all r. next_is (what.Mark mark.Newline) _ t ts i r })
+line_sound a t w n i h = none_some _ h
 
 colon_sound : (a : Around) (x : Head) (t : Spelled) (w : What) (n : Stage) → t.what ≡ w → head_colon a x w ≡ Some n → Sound (λ ts all. Rest (stage.HeadColon a x) ts all) t n
 colon_sound a x t (what.Mark mark.Colon) n i h = sound_at _ t (stage.HeadLine a x) n (some_is h) (record { live = tt; back = λ ts all r. next_is (what.Mark mark.Colon) _ t ts i r })
@@ -106,7 +106,7 @@ def_next_sound is m t n l h =
 pub step_sound : (s : Stage) (t : Spelled) (n : Stage) → Live s → script_step s t ≡ Some n → Sound (λ ts all. Rest s ts all) t n
 step_sound (stage.Start a) t n l h = start_sound a t n h
 step_sound (stage.Behind a bs) t n l h = behind_sound a bs t n h
-step_sound (stage.Line a s) t n l h = line_sound a s t t.what n refl h
+step_sound (stage.Line a) t n l h = line_sound a t t.what n refl h
 step_sound (stage.Named a x) t n l h = named_sound a x t n h
 step_sound (stage.Plain a m) t n l h = plain_sound a m t n l h
 step_sound (stage.Dotted a o w) t n l h = dotted_sound a o w t t.what n refl l h

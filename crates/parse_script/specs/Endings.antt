@@ -1,4 +1,4 @@
--- What may stand behind an expression or a type, as the reading tells it apart.
+-- What a token is to what stands before it, as the reading tells it apart.
 use Rattle.spelled_tokens.specs.declared.token.Mark.{Mark}
 use Rattle.spelled_tokens.specs.declared.token.Mark.TheVariants as mark
 use Rattle.spelled_tokens.specs.declared.token.What.{What}
@@ -10,6 +10,9 @@ abbrev pub mark_ending : Mark → Ending
 mark_ending mark.Newline = ending.Newline
 mark_ending mark.Colon = ending.Colon
 mark_ending mark.Equals = ending.Equals
+mark_ending mark.Start = ending.Start
+mark_ending mark.Elif = ending.Elif
+mark_ending mark.Else = ending.Else
 mark_ending _ = ending.Other
 
 abbrev pub ending_of : What → Ending

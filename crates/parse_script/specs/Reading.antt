@@ -109,17 +109,31 @@ abbrev pub left : Floor → List Opened → List Stmt → Option Stage
 left f k [] = None
 left f k (s ∷ ss) = left_block f k (s ∷ ss)
 
+-- the items before, where the script's own block is the innermost one
+abbrev pub outermost : Floor → List Opened → Option (List Item)
+outermost (floor.Script is) [] = Some is
+outermost _ _ = None
+
+abbrev pub end_when : Option (List Item) → Option Stage
+end_when None = None
+end_when (Some is) = Some (stage.Ended is)
+
 abbrev pub end_at : Floor → List Opened → Option Stage
-end_at (floor.Script is) [] = Some (stage.Ended is)
-end_at _ _ = None
+end_at f k = end_when (outermost f k)
+
+abbrev pub class_when : Option (List Item) → Option Stage
+class_when None = None
+class_when (Some is) = Some (stage.Class is class_stage.Word)
 
 abbrev pub class_at : Floor → List Opened → Option Stage
-class_at (floor.Script is) [] = Some (stage.Class is class_stage.Word)
-class_at _ _ = None
+class_at f k = class_when (outermost f k)
+
+abbrev pub def_when : Option (List Item) → Option Stage
+def_when None = None
+def_when (Some is) = Some (stage.Def is def_stage.Word)
 
 abbrev pub def_at : Floor → List Opened → Option Stage
-def_at (floor.Script is) [] = Some (stage.Def is def_stage.Word)
-def_at _ _ = None
+def_at f k = def_when (outermost f k)
 
 -- ---- what stands behind an expression
 
@@ -128,13 +142,25 @@ stage_if true s = Some s
 stage_if false s = None
 
 -- an expression that was read for something, and this behind it
+abbrev pub is_newline : Ending → Bool
+is_newline ending.Newline = true
+is_newline _ = false
+
+-- the statement that an expression is the last part of
+abbrev pub ended_line : Around → Stmt → Ending → Option Stage
+ended_line a x n = stage_if (is_newline n) (added_stage a x)
+
+-- the head that an expression is the condition of
+abbrev pub ended_head : Around → Head → Ending → Option Stage
+ended_head a h ending.Colon = Some (stage.HeadLine a h)
+ended_head a h _ = None
+
 abbrev pub behind_used : Around → Use → Expr → Ending → Option Stage
-behind_used a (for_.Assign x t) e ending.Newline = Some (added_stage a (stmt.assign x t e))
-behind_used a (for_.Write o x) e ending.Newline = Some (added_stage a (stmt.write o x e))
-behind_used a (for_.Return p) e ending.Newline = Some (added_stage a (stmt.give p (Some e)))
-behind_used a for_.While e ending.Colon = Some (stage.HeadLine a (head.While e))
-behind_used a (for_.Branch bs) e ending.Colon = Some (stage.HeadLine a (head.Branch bs e))
-behind_used a _ e _ = None
+behind_used a (for_.Assign x t) e n = ended_line a (stmt.assign x t e) n
+behind_used a (for_.Write o x) e n = ended_line a (stmt.write o x e) n
+behind_used a (for_.Return p) e n = ended_line a (stmt.give p (Some e)) n
+behind_used a for_.While e n = ended_head a (head.While e) n
+behind_used a (for_.Branch bs) e n = ended_head a (head.Branch bs e) n
 
 abbrev pub behind_found : Around → Use → Option Expr → Ending → Option Stage
 behind_found a u None n = None
@@ -156,8 +182,8 @@ inside a u = stage.Inside a u (mode.Want [])
 
 -- the statement of arguments in brackets: a start has at least its callee
 abbrev pub listed_stage : Around → Listed → List Expr → Option Stage
-listed_stage a (listed.Print p) es = Some (stage.Line a (stmt.print p (exprs es)))
-listed_stage a (listed.Start x p) (e ∷ es) = Some (stage.Line a (stmt.start x p e (exprs es)))
+listed_stage a (listed.Print p) es = Some (stage.Line (added a (stmt.print p (exprs es))))
+listed_stage a (listed.Start x p) (e ∷ es) = Some (stage.Line (added a (stmt.start x p e (exprs es))))
 listed_stage a (listed.Start x p) [] = None
 
 abbrev pub behind_argument : Around → Listed → List Expr → Ending → Option Stage
@@ -240,12 +266,12 @@ named_at a x _ s = s
 abbrev pub named_step : Around → Word → Spelled → Option Stage
 named_step a x t = named_at a x (ending_of t.what) (plain_step a (mode.Have (held [] (expr.local x) 1)) t)
 
-abbrev pub assigning_at : Around → Word → What → Option Stage → Option Stage
-assigning_at a x (what.Mark mark.Start) o = Some (stage.StartWord a x)
+abbrev pub assigning_at : Around → Word → Ending → Option Stage → Option Stage
+assigning_at a x ending.Start o = Some (stage.StartWord a x)
 assigning_at a x _ o = o
 
 abbrev pub assigning_step : Around → Word → Spelled → Option Stage
-assigning_step a x t = assigning_at a x t.what (inside_step a (for_.Assign x None) (mode.Want []) t)
+assigning_step a x t = assigning_at a x (ending_of t.what) (inside_step a (for_.Assign x None) (mode.Want []) t)
 
 abbrev pub typed_end : Around → Word → Option Weighed → Ending → Option Stage
 typed_end a x (Some t) ending.Equals = Some (inside a (for_.Assign x (Some t.ann)))
@@ -258,17 +284,17 @@ typed_next a x o w None = typed_end a x o w
 abbrev pub typed_step : Around → Word → TypeMode → Spelled → Option Stage
 typed_step a x m t = typed_next a x (type_finish m) (ending_of t.what) (type_step heaviest m t)
 
-abbrev pub returning_at : Around → Place → What → Option Stage → Option Stage
-returning_at a p (what.Mark mark.Newline) o = Some (added_stage a (stmt.give p None))
+abbrev pub returning_at : Around → Place → Ending → Option Stage → Option Stage
+returning_at a p ending.Newline o = Some (added_stage a (stmt.give p None))
 returning_at a p _ o = o
 
 abbrev pub returning_step : Around → Place → Spelled → Option Stage
-returning_step a p t = returning_at a p t.what (inside_step a (for_.Return p) (mode.Want []) t)
+returning_step a p t = returning_at a p (ending_of t.what) (inside_step a (for_.Return p) (mode.Want []) t)
 
 -- ---- the beginning of a statement
 
 abbrev pub start_mark : Around → Place → Mark → Option Stage
-start_mark a p mark.Pass = Some (stage.Line a stmt.pass)
+start_mark a p mark.Pass = Some (stage.Line (added a stmt.pass))
 start_mark a p mark.Return = stage_if (is_def a.floor) (stage.Returning a p)
 start_mark a p mark.Print = Some (stage.PrintWord a)
 start_mark a p mark.If = stage_if (nat_lt (depth a) deepest) (inside a (for_.Branch []))
@@ -288,19 +314,20 @@ abbrev pub start_step : Around → Spelled → Option Stage
 start_step a t = start_at a t.place t.what (plain_on a (mode.Want []) t)
 
 -- behind the block of an `if` or `elif`
-abbrev pub behind_at : Around → List Branch → What → Option Stage → Option Stage
-behind_at a bs (what.Mark mark.Elif) o = Some (inside a (for_.Branch bs))
-behind_at a bs (what.Mark mark.Else) o = Some (stage.HeadColon a (head.Else bs))
+abbrev pub behind_at : Around → List Branch → Ending → Option Stage → Option Stage
+behind_at a bs ending.Elif o = Some (inside a (for_.Branch bs))
+behind_at a bs ending.Else o = Some (stage.HeadColon a (head.Else bs))
 behind_at a bs _ o = o
 
 abbrev pub behind_step : Around → List Branch → Spelled → Option Stage
-behind_step a bs t = behind_at a bs t.what (start_step (added a (stmt.if_any (branches bs) stmt.no_else)) t)
+behind_step a bs t = behind_at a bs (ending_of t.what) (start_step (added a (stmt.if_any (branches bs) stmt.no_else)) t)
 
 -- ---- fixed tokens
 
-abbrev pub line_step : Around → Stmt → What → Option Stage
-line_step a s (what.Mark mark.Newline) = Some (added_stage a s)
-line_step a s _ = None
+-- behind a simple statement
+abbrev pub line_step : Around → What → Option Stage
+line_step a (what.Mark mark.Newline) = Some (stage.Start a)
+line_step a _ = None
 
 abbrev pub head_colon : Around → Head → What → Option Stage
 head_colon a h (what.Mark mark.Colon) = Some (stage.HeadLine a h)
@@ -337,7 +364,7 @@ def_next is (Some m) = Some (def_stage_of is m)
 abbrev pub script_step : Stage → Spelled → Option Stage
 script_step (stage.Start a) t = start_step a t
 script_step (stage.Behind a bs) t = behind_step a bs t
-script_step (stage.Line a s) t = line_step a s t.what
+script_step (stage.Line a) t = line_step a t.what
 script_step (stage.Named a x) t = named_step a x t
 script_step (stage.Plain a m) t = plain_step a m t
 script_step (stage.Dotted a o w) t = dotted_step a o w t.place t.what
@@ -368,6 +395,10 @@ IsLightStage (stage.Class is m) = IsLightClass m
 IsLightStage (stage.Def is m) = IsLightDef m
 IsLightStage _ = Unit {0}
 
+abbrev pub stage_turn : Stage → Turn
+stage_turn (stage.Ended is) = turn.Done is
+stage_turn s = turn.Go s
+
 abbrev pub turn_of : Option Stage → Turn
 turn_of None = turn.Stop
-turn_of (Some s) = turn.Go s
+turn_of (Some s) = stage_turn s

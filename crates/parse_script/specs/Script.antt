@@ -1,5 +1,5 @@
 -- The grammar of scripts, and how tokens are refused that have no tree.
-use Rattle.std.specs.Prelude.{◌≡◌, ℕ, ◌+◌, false, List, [], ◌∷◌, ◌++◌, take, slice_get, Some}
+use Rattle.std.specs.Prelude.{◌≡◌, ℕ, ◌+◌, ◌<◌, length, false, List, [], ◌∷◌, ◌++◌, take, slice_get, Some}
 use Rattle.mono_syntax.specs.declared.leaf.Place.{Place}
 use Rattle.mono_syntax.specs.declared.refusal.LoadFault.{LoadFault}
 use Rattle.mono_syntax.specs.declared.refusal.LoadFault.TheVariants.{Refused, Memory}
@@ -54,6 +54,17 @@ pub record IsRefusedAt (text : List ℕ) (tokens : List Token) (r : Refusal) : T
 abbrev pub IsRefused : List ℕ → List Token → LoadFault → Type 0
 IsRefused text tokens Memory = Unit {0}
 IsRefused text tokens (Refused r) = IsRefusedAt text tokens r
+
+-- a refusal at the first token that is left behind END; want of memory says nothing
+pub record IsLeftAt (tokens : List Token) (behind : ℕ) (r : Refusal) : Type 0 where
+  pub token : Token
+  pub within : behind < length tokens
+  pub stands : slice_get tokens behind ≡ Some token
+  pub refusal : r ≡ record { place = token.place; reason = Syntax }
+
+abbrev pub IsLeft : List Token → ℕ → LoadFault → Type 0
+IsLeft tokens behind Memory = Unit {0}
+IsLeft tokens behind (Refused r) = IsLeftAt tokens behind r
 
 -- a token list has at most one tree
 abbrev pub OneTree : Type 0

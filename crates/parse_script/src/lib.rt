@@ -2,4 +2,15 @@
 //! token that no script has there. The contract says that the tree is the one that the grammar gives.
 #![tactic(auto)]
 
+mod arguments;
+mod around;
+mod class;
+mod ending;
+mod expressions;
+mod function;
+pub mod laws;
+mod parsing;
+mod script;
 mod stage;
+
+pub use parsing::parse;

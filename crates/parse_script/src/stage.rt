@@ -3,7 +3,7 @@ use mono_syntax::{Ann, Branch, ClassDef, Expr, FieldDef, Item, Param, Place, Stm
 use parse_expr::{Mode, TypeMode};
 use sqlite_items::Items;
 
-/// What a token that may stand behind an expression is.
+/// What a token is to what stands before it.
 #[derive(Clone, Copy)]
 pub enum Ending {
     Newline,
@@ -12,6 +12,9 @@ pub enum Ending {
     Close,
     Equals,
     Dot,
+    Start,
+    Elif,
+    Else,
     Other,
 }
 
@@ -114,8 +117,8 @@ pub enum Stage {
     Start(Around),
     /// Behind the block of an `if` or `elif`, with the branches up to it.
     Behind(Around, Items<Branch>),
-    /// Behind a simple statement: NEWLINE is wanted.
-    Line(Around, Stmt),
+    /// Behind a simple statement, which is added already: NEWLINE is wanted.
+    Line(Around),
     /// Behind a name that begins a statement.
     Named(Around, Word),
     /// In an expression that begins a statement.
@@ -152,10 +155,12 @@ pub enum Stage {
     Ended(Items<Item>),
 }
 
-/// What a token does: the reading goes on, or it stops.
+/// What a token does: the reading goes on, it ends, or it stops.
 #[derive(Drop)]
 pub enum Turn {
     Go(Stage),
+    /// The script ended, with these items.
+    Done(Items<Item>),
     Stop,
 }
 
