@@ -15,3 +15,4 @@ pub mod AheadStart
 pub mod StepAhead
 pub mod Alive
 pub mod Exact
+pub mod Shapes

@@ -1,6 +1,7 @@
 pub mod Statements
 pub mod Definitions
 pub mod Script
+pub mod Shapes
 pub mod ClassReading
 pub mod DefReading
 pub mod Reading
