@@ -79,8 +79,14 @@ module _ (cs : List ClassDef) (values : List NamedType) (types : List Ty) (at_ :
       (c.0, writes_class d.1 (c.1).fields (c.1).type)
   type_written (ann p (form.fun as_ a)) b k = absurd b
 
-  abbrev pair : Expr → Expr → List Occurrence
-  pair a b = in_expr role.Read a ++ in_expr role.Read b
+  -- a class has its number and the types of its fields
+  call_built : (p : _) (f : Expr) (es : Exprs) → IsBuiltCallee cs f → built.AreBuiltExprs names es → IsBuilt names (call p f es)
+  call_built p (local w) es b h =
+      let type = class_type cs types cs at_ stand w.text b.0 b.1 in
+      let number = class_number 0 cs w.text b.0 b.1 in
+      let fields = subst (λ (x : ClassDef). IsClassType cs x type.0) (sym number.2) type.1 in
+      ((number.0, fields.declared, number.1, fields.fields), h)
+  call_built p _ es b h = absurd b
 
   mutual
     expr_built : (e : Expr) → IsBuiltExpr cs e → IsShapedExpr e → AreKnown (in_expr role.Read e) → IsBuilt names e
@@ -91,31 +97,22 @@ module _ (cs : List ClassDef) (values : List NamedType) (types : List Ty) (at_ :
     expr_built (nil p) b s k = tt
     expr_built (neg p a) b s k = expr_built a b s k
     expr_built (negation p a) b s k = expr_built a b s k
-    expr_built (binary o p a c) b s k = pair_built a c b s k
-    expr_built (both a c) b s k = pair_built a c b s k
-    expr_built (either a c) b s k = pair_built a c b s k
+    expr_built (binary o p a c) b s k =
+        (expr_built a b.0 s.0 (left (in_expr role.Read a) (in_expr role.Read c) k), expr_built c b.1 s.1 (right (in_expr role.Read a) (in_expr role.Read c) k))
+    expr_built (both a c) b s k =
+        (expr_built a b.0 s.0 (left (in_expr role.Read a) (in_expr role.Read c) k), expr_built c b.1 s.1 (right (in_expr role.Read a) (in_expr role.Read c) k))
+    expr_built (either a c) b s k =
+        (expr_built a b.0 s.0 (left (in_expr role.Read a) (in_expr role.Read c) k), expr_built c b.1 s.1 (right (in_expr role.Read a) (in_expr role.Read c) k))
     expr_built (read a w) b s k = expr_built a b s k
     expr_built (call p f es) b s k = call_built p f es b.0 (exprs_built es b.1 s.1 (right (in_expr role.Called f) (in_exprs es) k))
     expr_built (cast p a e) b s k =
         (type_written a b.0 (left (in_ann a) (in_expr role.Read e) k), expr_built e b.1 s (right (in_ann a) (in_expr role.Read e) k))
     expr_built (join p w) b s k = absurd b
 
-    pair_built : (a c : Expr) → IsBuiltExpr cs a × IsBuiltExpr cs c → IsShapedExpr a × IsShapedExpr c → AreKnown (pair a c) → IsBuilt names a × IsBuilt names c
-    pair_built a c b s k =
-        (expr_built a b.0 s.0 (left (in_expr role.Read a) (in_expr role.Read c) k), expr_built c b.1 s.1 (right (in_expr role.Read a) (in_expr role.Read c) k))
-
     exprs_built : (es : Exprs) → AreBuiltExprs cs es → AreShapedExprs es → AreKnown (in_exprs es) → built.AreBuiltExprs names es
     exprs_built no_exprs b s k = tt
     exprs_built (more_exprs e es) b s k =
         (expr_built e b.0 s.0 (left (in_expr role.Read e) (in_exprs es) k), exprs_built es b.1 s.1 (right (in_expr role.Read e) (in_exprs es) k))
-
-    call_built : (p : _) (f : Expr) (es : Exprs) → IsBuiltCallee cs f → built.AreBuiltExprs names es → IsBuilt names (call p f es)
-    call_built p (local w) es b h =
-        let type = class_type cs types cs at_ stand w.text b.0 b.1 in
-        let number = class_number 0 cs w.text b.0 b.1 in
-        let fields = subst (λ (x : ClassDef). IsClassType cs x type.0) (sym number.2) type.1 in
-        ((number.0, fields.declared, number.1, fields.fields), h)
-    call_built p _ es b h = absurd b
 
   -- ---- statements
 
@@ -128,13 +125,14 @@ module _ (cs : List ClassDef) (values : List NamedType) (types : List Ty) (at_ :
     stmt_built (give p e) b s k h = absurd b
     stmt_built (print p es) b s k h = exprs_built es b s k
     stmt_built (assign w a e) b s k h = (target_typed w a h, expr_built e b.1 s (right (in_target w a) (in_expr role.Read e) k))
-    stmt_built (write o w e) b s k h = pair_built o e b s k
+    stmt_built (write o w e) b s k h =
+        (expr_built o b.0 s.0 (left (in_expr role.Read o) (in_expr role.Read e) k), expr_built e b.1 s.1 (right (in_expr role.Read o) (in_expr role.Read e) k))
     stmt_built (start w p f es) b s k h = absurd b
     stmt_built (plain e) b s k h = expr_built e b s k
     stmt_built (if_any bs last) b s k h = (
       has_branch bs s.0,
-      branches_built bs b.0 s.1.0 (left (in_branches bs) (in_else last) k) (front (branch_targets bs) (else_targets last) h),
-      else_built last b.1 s.1.1 (right (in_branches bs) (in_else last) k) (back (branch_targets bs) (else_targets last) h),
+      branches_built bs b.0 s.1 (left (in_branches bs) (in_else last) k) (front (branch_targets bs) (else_targets last) h),
+      else_built last b.1 s.2 (right (in_branches bs) (in_else last) k) (back (branch_targets bs) (else_targets last) h),
     )
     stmt_built (loop e body) b s k h =
         (expr_built e b.0 s.0 (left (in_expr role.Read e) (in_block body) k), block_built body b.1 s.1 (right (in_expr role.Read e) (in_block body) k) h)
@@ -149,10 +147,10 @@ module _ (cs : List ClassDef) (values : List NamedType) (types : List Ty) (at_ :
     branches_built : (bs : Branches) → AreBuiltBranches cs bs → AreShapedBranches bs → AreKnown (in_branches bs) → AreTyped (branch_targets bs) → built.AreBuiltBranches names bs
     branches_built no_branches b s k h = tt
     branches_built (more_branches e body bs) b s k h =
-        let rest = right (in_expr role.Read e) (in_block body ++ in_branches bs) k in (
-          expr_built e b.0 s.0 (left (in_expr role.Read e) (in_block body ++ in_branches bs) k),
-          block_built body b.1.0 s.1.0 (left (in_block body) (in_branches bs) rest) (front (block_targets body) (branch_targets bs) h),
-          branches_built bs b.1.1 s.1.1 (right (in_block body) (in_branches bs) rest) (back (block_targets body) (branch_targets bs) h),
+        let first = left (in_expr role.Read e ++ in_block body) (in_branches bs) k in (
+          expr_built e b.0 s.0 (left (in_expr role.Read e) (in_block body) first),
+          block_built body b.1 s.1 (right (in_expr role.Read e) (in_block body) first) (front (block_targets body) (branch_targets bs) h),
+          branches_built bs b.2 s.2 (right (in_expr role.Read e ++ in_block body) (in_branches bs) k) (back (block_targets body) (branch_targets bs) h),
         )
 
     else_built : (l : Else) → IsBuiltElse cs l → IsShapedElse l → AreKnown (in_else l) → AreTyped (else_targets l) → built.IsBuiltElse names l

@@ -14,7 +14,7 @@ use Rattle.mono_syntax.specs.StmtView.{block}
 use Rattle.mono_syntax.specs.Ty.{Ty}
 use Rattle.mono_tree.specs.WellTyped.{type_of_name}
 use Rattle.script_rules.specs.BlockNames.{Target, targets, block_targets, firsts}
-use Rattle.script_rules.specs.Definitions.{classes_of, class_named}
+use Rattle.script_rules.specs.Definitions.{class_named, statements_of}
 use Rattle.script_rules.specs.Scoping.{class_list, main_block}
 use Rattle.name_scope.specs.declared.occurrence.Occurrence.{Occurrence}
 use Rattle.name_scope.specs.declared.occurrence.Role.TheVariants as role

@@ -138,11 +138,11 @@ module _ (cs : List ClassDef) where
     branches_give no_branches b o c g = nothing o (Given [] o.text) c
     branches_give (more_branches e body bs) b o c g =
         let B = Given (block_targets body ++ branch_targets bs) o.text in
-        either_way (in_expr role.Read e) (in_block body ++ in_branches bs) o B c (reads e o B g)
+        either_way (in_expr role.Read e ++ in_block body) (in_branches bs) o B c
         (λ k.
-        either_way (in_block body) (in_branches bs) o B k
-        (λ d. given_left (block_targets body) (branch_targets bs) o.text (block_gives body b.1.0 o d g))
-        (λ d. given_right (block_targets body) (branch_targets bs) o.text (branches_give bs b.1.1 o d g)))
+        either_way (in_expr role.Read e) (in_block body) o B k (reads e o B g)
+        (λ d. given_left (block_targets body) (branch_targets bs) o.text (block_gives body b.1 o d g)))
+        (λ d. given_right (block_targets body) (branch_targets bs) o.text (branches_give bs b.2 o d g))
 
     else_gives : (l : Else) → IsBuiltElse cs l → (o : Occurrence) → Contains (in_else l) o → gives_name o.role ≡ true → Given (else_targets l) o.text
     else_gives no_else b o c g = nothing o (Given [] o.text) c
