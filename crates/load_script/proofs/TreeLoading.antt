@@ -1,6 +1,6 @@
 -- What a tree without a fault of size comes to.
 use Rattle.std.proofs.Common.{◌≡◌, inl, inr, [], Option, Some, None, Result, Ok, Err, IfOk, IfErr, refl, sym, ◌∙◌, subst, ap}
-use Rattle.std.specs.Prelude.{IsOkUnless, MatchOption}
+use Rattle.std.specs.Prelude.{false, IsTrue, IsOkUnless, MatchOption}
 use Rattle.mono_list.proofs.Cases.{none_some}
 use Rattle.mono_syntax.specs.declared.cast.CastScript.{CastScript}
 use Rattle.mono_syntax.specs.declared.refusal.LoadFault.{LoadFault}
@@ -110,3 +110,6 @@ unbuilt_refuses s n q (tree.unbuilt m) = inl refl
 unbuilt_refuses s n q (too_large g) = inl refl
 unbuilt_refuses s n q (misnamed b z g) = absurd (n b)
 unbuilt_refuses s n q (mistyped b k se main g) = absurd (n b)
+
+pub never : IsTrue false → ⊥
+never e = cc

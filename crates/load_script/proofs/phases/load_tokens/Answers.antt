@@ -1,5 +1,5 @@
 use Rattle.parse_script.proofs.Shapes.{trees_are_shaped}
-use Rattle.load_script.proofs.TextLoading.{tree_fault, parse_fault}
+use Rattle.load_script.proofs.TextLoading.{tree_fault, tree_refuses, parse_fault, parse_refuses}
 use Rattle.load_script.proofs.phases.load_tokens.Goals as goal
 
 pub load_tree-requires : goal.load_tree-requires
@@ -10,3 +10,10 @@ returns-in-Ok-clause-refused c = tree_fault c.args.text.now c.args.tokens.now c.
 
 pub returns-in-Err-clause-refused : goal.returns-in-Err-clause-refused
 returns-in-Err-clause-refused c = parse_fault c.args.text.now c.args.tokens.now c.in-Err.fault c.in-Err.ensures.refused
+
+pub returns-in-Ok-clause-refuses : goal.returns-in-Ok-clause-refuses
+returns-in-Ok-clause-refuses c =
+    tree_refuses c.args.text.now c.args.tokens.now c.in-Ok.script c.in-Ok.ensures.accepted c.in-Ok.ensures.complete c.load_tree.result c.load_tree.ensures.refuses
+
+pub returns-in-Err-clause-refuses : goal.returns-in-Err-clause-refuses
+returns-in-Err-clause-refuses c = parse_refuses c.args.text.now c.args.tokens.now c.in-Err.fault c.in-Err.ensures.refused c.in-Err.ensures.complete
