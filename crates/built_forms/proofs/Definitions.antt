@@ -1,5 +1,5 @@
 -- Names that are classes.
-use Rattle.std.proofs.Common.{◌≡◌, inl, inr, ℕ, ◌+◌, List, [], ◌∷◌, ◌++◌, Bool, true, false, Some, None, flat_map, bytes_eq, refl, ap, subst, if◌then◌else◌}
+use Rattle.std.proofs.Common.{◌≡◌, inl, inr, ℕ, ◌+◌, List, [], ◌∷◌, Bool, true, false, Some, None, flat_map, bytes_eq, refl, ap, subst, if◌then◌else◌}
 use Rattle.std.specs.Prelude.{Contains}
 use Rattle.mono_list.proofs.Cases.{split, some_is, some_none, none_some}
 use Rattle.mono_syntax.specs.declared.leaf.TyAt.{TyAt}

@@ -1,5 +1,5 @@
 -- Typing is built for each form of a built tree whose names are known.
-use Rattle.std.proofs.Common.{◌≡◌, ℕ, List, [], ◌∷◌, ◌++◌, Option, Some, None, flat_map, refl, sym, ◌∙◌, ap, subst}
+use Rattle.std.proofs.Common.{◌≡◌, List, [], ◌∷◌, ◌++◌, Option, Some, None, flat_map, refl, sym, ◌∙◌, ap, subst}
 use Rattle.std.specs.Prelude.{Contains}
 use Rattle.std.proofs.lemmas.List.Elements.{Contains-append_left, Contains-append_right}
 use Rattle.mono_syntax.specs.declared.cast.NamedType.{NamedType}
@@ -30,7 +30,7 @@ use Rattle.typing_rules.specs.BuiltForms.{IsBuilt, IsBuiltLine, AreBuiltLines, H
 use Rattle.typing_rules.specs.BuiltForms as built
 use Rattle.typing_rules.specs.HasCasts.{AreNames, IsMainNames}
 use Rattle.typing_rules.specs.Members.{Names}
-use Rattle.built_forms.specs.BuiltTrees.{IsBuiltType, IsBuiltCallee, IsBuiltExpr, AreBuiltExprs, IsBuiltAnn, IsBuiltStmt, IsBuiltBlock, AreBuiltBranches, IsBuiltElse, AreBuiltItems, IsBuiltTree}
+use Rattle.built_forms.specs.BuiltTrees.{IsBuiltType, IsBuiltCallee, IsBuiltExpr, AreBuiltExprs, IsBuiltStmt, IsBuiltBlock, AreBuiltBranches, IsBuiltElse, AreBuiltItems, IsBuiltTree}
 use Rattle.built_forms.proofs.Definitions.{class_type, class_number}
 use Rattle.built_forms.proofs.Known.{block_assigns, there, assigned, read_known, typed_known}
 use Rattle.built_forms.proofs.Standing.{head_stands}

@@ -4,9 +4,8 @@
 #![tactic(auto)]
 
 mod expressions;
+pub mod laws;
 mod statements;
 mod trees;
-
-pub mod laws;
 
 pub use trees::is_built;
