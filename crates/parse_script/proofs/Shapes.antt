@@ -3,7 +3,6 @@ use Rattle.std.proofs.Common.{◌≡◌, ℕ, ◌≤◌, Bool, true, false, List
 use Rattle.std.specs.Prelude.{IfSome, bytes_eq, chars, codes}
 use Rattle.std.proofs.lemmas.Bool.{and_parts, leb-true}
 use Rattle.mono_list.proofs.Cases.{split, some_is, none_some}
-use Rattle.mono_syntax.specs.declared.leaf.Place.{Place}
 use Rattle.mono_syntax.specs.declared.leaf.Op.{Op}
 use Rattle.mono_syntax.specs.declared.tree.Branch.{Branch}
 use Rattle.mono_syntax.specs.declared.tree.FuncDef.{FuncDef}
@@ -23,14 +22,14 @@ use Rattle.spelled_tokens.specs.declared.token.Spelled.{Spelled}
 use Rattle.spelled_tokens.specs.declared.token.What.{What}
 use Rattle.spelled_tokens.specs.declared.token.What.TheVariants as what
 use Rattle.spelled_tokens.specs.Spelling.{spelling, inside}
-use Rattle.spelled_tokens.specs.SpelledTokens.{spell, all_spelled, number_when, text_when, what_when}
-use Rattle.spelled_tokens.specs.Words.{expression_word, type_word, statement_word, mark_when, word_when, operator, punctuation, sign_when}
+use Rattle.spelled_tokens.specs.SpelledTokens.{all_spelled, number_when, text_when, what_when}
+use Rattle.spelled_tokens.specs.Words.{expression_word, type_word, mark_when, word_when, operator, punctuation, sign_when}
 use Rattle.parse_expr.specs.Grammar as g
 use Rattle.parse_expr.specs.Grammar.{Form, Derives, DerivesArgs, IsExpr}
 use Rattle.parse_script.specs.Definitions as ds
 use Rattle.parse_script.specs.Definitions.{DerivesDef}
 use Rattle.parse_script.specs.Script as sc
-use Rattle.parse_script.specs.Script.{DerivesItem, DerivesItems, DerivesScript}
+use Rattle.parse_script.specs.Script.{DerivesItems, DerivesScript}
 use Rattle.parse_script.specs.Shapes.{IsShapedExpr, AreShapedExprs, IsShapedStmt, IsShapedBlock, AreShapedBranches, IsShapedElse, AreShapedItems, IsShaped}
 use Rattle.parse_script.specs.Statements as st
 use Rattle.parse_script.specs.Statements.{heaviest, DerivesStmt, DerivesTail, DerivesBlock, DerivesStmts}
@@ -87,7 +86,15 @@ any_fits false x o h k = k
 punctuation_fits : (w : List ℕ) → Fit (punctuation w)
 unfolding punctuation
 punctuation_fits w =
-    one_fits (bytes_eq w (codes ".")) what.Dot _ tt (one_fits (bytes_eq w (codes "(")) what.Open _ tt (one_fits (bytes_eq w (codes ")")) what.Close _ tt (one_fits (bytes_eq w (codes ",")) what.Comma _ tt (one_fits (bytes_eq w (codes "[")) (what.Mark mark.OpenSquare) _ tt (one_fits (bytes_eq w (codes "]")) (what.Mark mark.CloseSquare) _ tt (one_fits (bytes_eq w (codes "=")) (what.Mark mark.Equals) _ tt (one_fits (bytes_eq w (codes ":")) (what.Mark mark.Colon) _ tt (one_fits (bytes_eq w (codes "->")) (what.Mark mark.Arrow) _ tt (record { fits = tt })))))))))
+    one_fits (bytes_eq w (codes ".")) what.Dot _ tt
+    (one_fits (bytes_eq w (codes "(")) what.Open _ tt
+    (one_fits (bytes_eq w (codes ")")) what.Close _ tt
+    (one_fits (bytes_eq w (codes ",")) what.Comma _ tt
+    (one_fits (bytes_eq w (codes "[")) (what.Mark mark.OpenSquare) _ tt
+    (one_fits (bytes_eq w (codes "]")) (what.Mark mark.CloseSquare) _ tt
+    (one_fits (bytes_eq w (codes "=")) (what.Mark mark.Equals) _ tt
+    (one_fits (bytes_eq w (codes ":")) (what.Mark mark.Colon) _ tt
+    (one_fits (bytes_eq w (codes "->")) (what.Mark mark.Arrow) _ tt (record { fits = tt })))))))))
 
 sign_fits : (o : Option Op) (w : List ℕ) → Fits (sign_when o w)
 sign_fits (Some o) w = tt
@@ -96,7 +103,14 @@ sign_fits None w = (punctuation_fits w).fits
 expression_fits : (w : List ℕ) → AnyFit (expression_word w)
 unfolding expression_word
 expression_fits w =
-    any_fits (bytes_eq w (codes "True")) (what.Bool true) _ tt (any_fits (bytes_eq w (codes "False")) (what.Bool false) _ tt (any_fits (bytes_eq w (codes "None")) what.Nil _ tt (any_fits (bytes_eq w (codes "or")) what.Or _ tt (any_fits (bytes_eq w (codes "and")) what.And _ tt (any_fits (bytes_eq w (codes "not")) what.Not _ tt (any_fits (bytes_eq w (codes "cast")) what.Cast _ tt (any_fits (bytes_eq w (codes "join")) what.Join _ tt (record { fits = tt }))))))))
+    any_fits (bytes_eq w (codes "True")) (what.Bool true) _ tt
+    (any_fits (bytes_eq w (codes "False")) (what.Bool false) _ tt
+    (any_fits (bytes_eq w (codes "None")) what.Nil _ tt
+    (any_fits (bytes_eq w (codes "or")) what.Or _ tt
+    (any_fits (bytes_eq w (codes "and")) what.And _ tt
+    (any_fits (bytes_eq w (codes "not")) what.Not _ tt
+    (any_fits (bytes_eq w (codes "cast")) what.Cast _ tt
+    (any_fits (bytes_eq w (codes "join")) what.Join _ tt (record { fits = tt }))))))))
 
 mark_fits : (o : Option Mark) (w : List ℕ) → Fits (mark_when o w)
 mark_fits (Some m) w = tt
