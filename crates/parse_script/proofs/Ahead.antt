@@ -62,9 +62,11 @@ unnext w P t ts n =
 
 pub unname : (P : Word → List Spelled → Type 0) (t : Spelled) (ts : List Spelled) → NextName P (t ∷ ts) → (x : List ℕ) × (t.what ≡ what.Name x) × P (word x t.place) ts
 unname P t ts n =
-    let h = head_is n.split in
-    (n.name, ap (λ (u : Spelled). u.what) h,
-    subst (λ (p : Place). P (word n.name p) ts) (sym (ap (λ (u : Spelled). u.place) h)) (subst (λ (l : List Spelled). P (word n.name n.place) l) (sym (tail_is n.split)) n.rest))
+    let h = head_is n.split in (
+      n.name,
+      ap (λ (u : Spelled). u.what) h,
+      subst (λ (p : Place). P (word n.name p) ts) (sym (ap (λ (u : Spelled). u.place) h)) (subst (λ (l : List Spelled). P (word n.name n.place) l) (sym (tail_is n.split)) n.rest),
+    )
 
 -- an expression goes on, or ends here
 pub record ExprOn (m : Mode) (P : Expr → List Spelled → Type 0) (t : Spelled) (ts : List Spelled) : Type 0 where
@@ -173,8 +175,8 @@ inside_on a u m t ts all r =
     elim (unexpr m (λ e us. RestUse a u e us all) t ts r) [
       | inl x ↦ record { next = stage.Inside a u x.next; step_is = ap (inside_next a u (finish m) (ending_of t.what)) x.step_is; rest = x.rest }
       | inr x ↦ (
-      let y = used_on a u x.tree t ts all x.rest in
-      on_at _ _ ts all (ap (inside_next a u (finish m) (ending_of t.what)) (mark_stops m x.tree t y.0 x.finish_is y.1) ∙ ap (λ (o : Option Expr). behind_found a u o (ending_of t.what)) x.finish_is) y.2)
+          let y = used_on a u x.tree t ts all x.rest in
+          on_at _ _ ts all (ap (inside_next a u (finish m) (ending_of t.what)) (mark_stops m x.tree t y.0 x.finish_is y.1) ∙ ap (λ (o : Option Expr). behind_found a u o (ending_of t.what)) x.finish_is) y.2)
     ]
 
 -- ---- arguments
@@ -199,8 +201,8 @@ argument_on a l es m t ts all r =
     elim (unexpr m (λ e us. RestArgument a l (es ++ (e ∷ [])) us all) t ts r) [
       | inl x ↦ record { next = stage.Argument a l es x.next; step_is = ap (argument_next a l es (finish m) (ending_of t.what)) x.step_is; rest = x.rest }
       | inr x ↦ (
-      let y = behind_on a l (es ++ (x.tree ∷ [])) m x.tree t ts all x.finish_is x.rest in
-      on_at _ _ ts all (ap (argument_next a l es (finish m) (ending_of t.what)) y.0 ∙ ap (λ (o : Option Expr). found_argument a l es o (ending_of t.what)) x.finish_is) y.1)
+          let y = behind_on a l (es ++ (x.tree ∷ [])) m x.tree t ts all x.finish_is x.rest in
+          on_at _ _ ts all (ap (argument_next a l es (finish m) (ending_of t.what)) y.0 ∙ ap (λ (o : Option Expr). found_argument a l es o (ending_of t.what)) x.finish_is) y.1)
     ]
 
 -- an expression of the grammar, and what is behind it
@@ -217,10 +219,25 @@ arguments_are a l es ts us vs w fs p all no_args h s r = record { which = inl (r
 arguments_are a l es ts us vs w fs p all (last_arg xs v e d) h s r =
     record { which = inr (grammar_expr _ us (tok what.Close p ∷ vs) ts e (w, d, h) s (inr (record { place = p; more = vs; split = refl; rest = r }))) }
 arguments_are a l es ts us vs w fs p all (more_args q xs ys v u e ks d k) h s r =
-    record { which = inr (grammar_expr _ xs (tok what.Comma q ∷ (ys ++ (tok what.Close p ∷ vs))) ts e (v, d, omega (arith, le-max_left v u)) (s ∙ append_assoc xs (tok what.Comma q ∷ ys) (tok what.Close p ∷ vs))
-      (inl (record { place = q; more = ys ++ (tok what.Close p ∷ vs); split = refl;
-        rest = record { part = ys; weight = u; args = ks; place = p; more = vs; derives = k; light = omega (arith, le-max_right v u); split = refl;
-          rest = subst (λ (gs : List Expr). RestListed a l gs vs all) (sym (append_assoc es (e ∷ []) ks)) r } }))) }
+    record {
+      which = inr (grammar_expr _ xs (tok what.Comma q ∷ (ys ++ (tok what.Close p ∷ vs))) ts e (v, d, omega (arith, le-max_left v u)) (s ∙ append_assoc xs (tok what.Comma q ∷ ys) (tok what.Close p ∷ vs))
+          (inl (record {
+            place = q;
+            more = ys ++ (tok what.Close p ∷ vs);
+            split = refl;
+            rest = record {
+              part = ys;
+              weight = u;
+              args = ks;
+              place = p;
+              more = vs;
+              derives = k;
+              light = omega (arith, le-max_right v u);
+              split = refl;
+              rest = subst (λ (gs : List Expr). RestListed a l gs vs all) (sym (append_assoc es (e ∷ []) ks)) r;
+            };
+          })));
+    }
 
 listing_pass : (a : Around) (l : Listed) (es : List Expr) (w : What) → (w ≡ what.Close) ⊎ ((o : Option Stage) → listing_at a l es (ending_of w) o ≡ o)
 listing_pass a l es what.Close = inl refl
@@ -235,12 +252,12 @@ pub listing_on : (a : Around) (l : Listed) (es : List Expr) (t : Spelled) (ts : 
 listing_on a l es t ts all r =
     elim (arguments_are a l es (t ∷ ts) r.part r.more r.weight r.args r.place all r.derives r.light r.split r.rest).which [
       | inl x ↦ (
-      let n = unnext what.Close _ t ts x in
-      on_at _ _ ts all (ap (λ w. listing_at a l es (ending_of w) (argument_step a l es (mode.Want []) t)) n.0) (listed_on a l es ts all n.1))
+          let n = unnext what.Close _ t ts x in
+          on_at _ _ ts all (ap (λ w. listing_at a l es (ending_of w) (argument_step a l es (mode.Want []) t)) n.0) (listed_on a l es ts all n.1))
       | inr x ↦ (
-      let y = argument_on a l es (mode.Want []) t ts all x in
-      elim (listing_pass a l es t.what) [
-        | inl i ↦ none_some _ (sym (close_begins_none a l es t i) ∙ y.step_is)
-        | inr i ↦ on_at _ _ ts all (i (argument_step a l es (mode.Want []) t)) y
-      ])
+          let y = argument_on a l es (mode.Want []) t ts all x in
+          elim (listing_pass a l es t.what) [
+            | inl i ↦ none_some _ (sym (close_begins_none a l es t i) ∙ y.step_is)
+            | inr i ↦ on_at _ _ ts all (i (argument_step a l es (mode.Want []) t)) y
+          ])
     ]

@@ -62,8 +62,13 @@ target_is a m t ts [] more o w all g l s r =
     record { which = inr (inr (record { tree = o; weight = w; mode_is = goes_nil (step heaviest) g; dot = n.0; rest = n.1 })) }
 target_is a m t ts (u ∷ part) more o w all g l s r =
     let c = goes_cons (step heaviest) g in
-    record { which = inl (record { next = c.0; step_is = ap (step heaviest m) (head_is s) ∙ c.1;
-      rest = inr (record { part = part; more = more; tree = o; weight = w; goes = c.2; light = l; split = tail_is s; rest = r }) }) }
+    record {
+      which = inl (record {
+        next = c.0;
+        step_is = ap (step heaviest m) (head_is s) ∙ c.1;
+        rest = inr (record { part = part; more = more; tree = o; weight = w; goes = c.2; light = l; split = tail_is s; rest = r });
+      });
+    }
 
 pub plain_is : (a : Around) (m : Mode) (t : Spelled) (ts : List Spelled) (all : List Item) → RestPlain a m (t ∷ ts) all → PlainIs a m t ts all
 plain_is a m t ts all (inl r) =
@@ -138,19 +143,19 @@ dot_on : (a : Around) (o : Expr) (w : ℕ) (t : Spelled) (ts : List Spelled) (al
 dot_on a o w t ts all i r =
     elim (plain_is a (mode.Have (held [] o w)) t ts all r).which [
       | inl x ↦ (
-      let d = dot_next o w t x.next i x.step_is in
-      let n = dotted_is a (held [] o w) ts all (subst (λ (m : Mode). RestPlain a m ts all) d.1 x.rest) in
-      record { name = n.name; place = n.place; more = n.more; split = n.split; rest = inr (d.0, n.rest) })
+          let d = dot_next o w t x.next i x.step_is in
+          let n = dotted_is a (held [] o w) ts all (subst (λ (m : Mode). RestPlain a m ts all) d.1 x.rest) in
+          record { name = n.name; place = n.place; more = n.more; split = n.split; rest = inr (d.0, n.rest) })
       | inr y ↦
-      elim y [
-        | inl x ↦ (
-        let n = unnext (what.Mark mark.Newline) _ t ts x.rest in
-        absurd (no (sym i ∙ n.0)))
-        | inr x ↦ (
-        let e : held [] o w ≡ held [] x.tree x.weight = have_is x.mode_is in
-        let n = x.rest in
-        record { name = n.name; place = n.place; more = n.more; split = n.split; rest = inl (subst (λ (z : Expr). RestValue a z (word n.name n.place) n.more all) (sym (ap (λ (h : Held). h.tree) e)) n.rest) })
-      ]
+          elim y [
+            | inl x ↦ (
+                let n = unnext (what.Mark mark.Newline) _ t ts x.rest in
+                absurd (no (sym i ∙ n.0)))
+            | inr x ↦ (
+                let e : held [] o w ≡ held [] x.tree x.weight = have_is x.mode_is in
+                let n = x.rest in
+                record { name = n.name; place = n.place; more = n.more; split = n.split; rest = inl (subst (λ (z : Expr). RestValue a z (word n.name n.place) n.more all) (sym (ap (λ (h : Held). h.tree) e)) n.rest) })
+          ]
     ]
   where
     no : what.Dot ≡ what.Mark mark.Newline → ⊥
@@ -165,29 +170,31 @@ plain_on_ahead a m t ts all apart r =
     elim (plain_is a m t ts all r).which [
       | inl x ↦ record { next = stage.Plain a x.next; step_is = ap (plain_next a (finish m) (ending_of t.what)) x.step_is; rest = x.rest }
       | inr y ↦
-      elim y [
-        | inl x ↦ (
-        let n = unnext (what.Mark mark.Newline) _ t ts x.rest in
-        record { next = added_stage a (stmt.plain x.tree);
-          step_is = ap (plain_next a (finish m) (ending_of t.what)) (mark_stops m x.tree t mark.Newline x.finish_is n.0) ∙ ap (λ (o : Option Expr). plain_found a o (ending_of t.what)) x.finish_is ∙ ap (λ (w : What). plain_found a (Some x.tree) (ending_of w)) n.0;
-          rest = n.1 })
-        | inr x ↦ absurd (apart x.tree x.weight x.mode_is x.dot)
-      ]
+          elim y [
+            | inl x ↦ (
+                let n = unnext (what.Mark mark.Newline) _ t ts x.rest in
+                record {
+                  next = added_stage a (stmt.plain x.tree);
+                  step_is = ap (plain_next a (finish m) (ending_of t.what)) (mark_stops m x.tree t mark.Newline x.finish_is n.0) ∙ ap (λ (o : Option Expr). plain_found a o (ending_of t.what)) x.finish_is ∙ ap (λ (w : What). plain_found a (Some x.tree) (ending_of w)) n.0;
+                  rest = n.1;
+                })
+            | inr x ↦ absurd (apart x.tree x.weight x.mode_is x.dot)
+          ]
     ]
 
 pub plain_ahead : (a : Around) (m : Mode) (t : Spelled) (ts : List Spelled) (all : List Item) → RestPlain a m (t ∷ ts) all → On (plain_step a m t) ts all
 plain_ahead a m t ts all r =
     elim (plain_pass a m t.what) [
       | inl d ↦
-      record {
-        next = stage.Dotted a d.tree d.weight;
-        step_is = ap (λ (k : Mode). plain_step a k t) d.mode_is ∙ ap (λ (w : What). plain_at a (mode.Have (held [] d.tree d.weight)) (ending_of w) (plain_on a (mode.Have (held [] d.tree d.weight)) t)) d.dot;
-        rest = dot_on a d.tree d.weight t ts all d.dot (subst (λ (k : Mode). RestPlain a k (t ∷ ts) all) d.mode_is r);
-      }
+          record {
+            next = stage.Dotted a d.tree d.weight;
+            step_is = ap (λ (k : Mode). plain_step a k t) d.mode_is ∙ ap (λ (w : What). plain_at a (mode.Have (held [] d.tree d.weight)) (ending_of w) (plain_on a (mode.Have (held [] d.tree d.weight)) t)) d.dot;
+            rest = dot_on a d.tree d.weight t ts all d.dot (subst (λ (k : Mode). RestPlain a k (t ∷ ts) all) d.mode_is r);
+          }
       | inr i ↦
-      on_at _ _ ts all (i (plain_on a m t))
-      (plain_on_ahead a m t ts all
-      (λ o w e f. none_some ⊥ (sym (i None) ∙ ap (λ (k : Mode). plain_at a k (ending_of t.what) None) e ∙ ap (λ (v : What). plain_at a (mode.Have (held [] o w)) (ending_of v) None) f)) r)
+          on_at _ _ ts all (i (plain_on a m t))
+          (plain_on_ahead a m t ts all
+          (λ o w e f. none_some ⊥ (sym (i None) ∙ ap (λ (k : Mode). plain_at a k (ending_of t.what) None) e ∙ ap (λ (v : What). plain_at a (mode.Have (held [] o w)) (ending_of v) None) f)) r)
     ]
 
 pub dotted_ahead : (a : Around) (o : Expr) (w : ℕ) (t : Spelled) (ts : List Spelled) (all : List Item) → NextName (λ x us. RestAttribute a o w x us all) (t ∷ ts) → On (dotted_step a o w t.place t.what) ts all
@@ -254,10 +261,10 @@ named_ahead a x t ts all (inr (inr r)) =
     elim (named_pass a x t.what).which [
       | inl i ↦ none_some _ (sym (stops_plain a (held [] (expr.local x) 1) t mark.Equals i (found_equals a) (held_equals a)) ∙ p.step_is)
       | inr j ↦
-      elim j [
-        | inl i ↦ none_some _ (sym (stops_plain a (held [] (expr.local x) 1) t mark.Colon i (found_colon a) (held_colon a)) ∙ p.step_is)
-        | inr i ↦ on_at _ _ ts all (i (plain_step a (mode.Have (held [] (expr.local x) 1)) t)) p
-      ]
+          elim j [
+            | inl i ↦ none_some _ (sym (stops_plain a (held [] (expr.local x) 1) t mark.Colon i (found_colon a) (held_colon a)) ∙ p.step_is)
+            | inr i ↦ on_at _ _ ts all (i (plain_step a (mode.Have (held [] (expr.local x) 1)) t)) p
+          ]
     ]
 
 pub typed_ahead : (a : Around) (x : Word) (m : TypeMode) (t : Spelled) (ts : List Spelled) (all : List Item) → RestTyped a x m (t ∷ ts) all → On (typed_step a x m t) ts all
@@ -265,14 +272,14 @@ typed_ahead a x m t ts all r =
     elim (untype m (λ u us. Next (what.Mark mark.Equals) (λ p vs. RestInside a (for_.Assign x (Some u)) (mode.Want []) vs all) us) t ts r) [
       | inl y ↦ record { next = stage.Typed a x y.next; step_is = ap (typed_next a x (type_finish m) (ending_of t.what)) y.step_is; rest = y.rest }
       | inr y ↦ (
-      let n = unnext (what.Mark mark.Equals) _ t ts y.rest in
-      let stops : type_step heaviest (type_mode.Have [] y.tree y.weight) t ≡ None = ap (type_behind [] y.tree y.weight) n.0 in
-      record {
-        next = inside a (for_.Assign x (Some y.tree));
-        step_is = ap (λ (k : TypeMode). typed_step a x k t) y.mode_is ∙ ap (typed_next a x (Some (record { ann = y.tree; weight = y.weight })) (ending_of t.what)) stops
-            ∙ ap (λ (v : What). typed_end a x (Some (record { ann = y.tree; weight = y.weight })) (ending_of v)) n.0;
-        rest = n.1;
-      })
+          let n = unnext (what.Mark mark.Equals) _ t ts y.rest in
+          let stops : type_step heaviest (type_mode.Have [] y.tree y.weight) t ≡ None = ap (type_behind [] y.tree y.weight) n.0 in
+          record {
+            next = inside a (for_.Assign x (Some y.tree));
+            step_is = ap (λ (k : TypeMode). typed_step a x k t) y.mode_is ∙ ap (typed_next a x (Some (record { ann = y.tree; weight = y.weight })) (ending_of t.what)) stops
+                ∙ ap (λ (v : What). typed_end a x (Some (record { ann = y.tree; weight = y.weight })) (ending_of v)) n.0;
+            rest = n.1;
+          })
     ]
 
 -- a reserved word of statements begins no expression

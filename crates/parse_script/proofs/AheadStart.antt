@@ -89,7 +89,7 @@ block_is a h us vs ss all (indented d p q r ts rs e) l =
         more = (ts ++ (sign mark.Dedent r ∷ [])) ++ vs;
         split = refl;
         rest = subst (λ (z : Around). RestAt z ((ts ++ (sign mark.Dedent r ∷ [])) ++ vs) all) (sym (enters a h))
-          (subst (λ (k : List Spelled). RestAt (around a.floor (opens a h ∷ a.opened) []) k all) (sym (append_assoc ts (sign mark.Dedent r ∷ []) vs)) inner);
+            (subst (λ (k : List Spelled). RestAt (around a.floor (opens a h ∷ a.opened) []) k all) (sym (append_assoc ts (sign mark.Dedent r ∷ []) vs)) inner);
       };
     }
 
@@ -177,48 +177,136 @@ statement_on a d us vs ts t x all n (s.give_none e p q i) h r =
     (record { next = stage.Returning a p; step_is = ap (λ b. stage_if b (stage.Returning a p)) i; rest = inl (line_is a (stmt.give p None) q vs (sign mark.Newline q ∷ vs) all refl r) })
 statement_on a d us vs ts t x all n (s.give e p q ws y i z) h r =
     on_first a t (sign mark.Return p) ts ((ws ++ (sign mark.Newline q ∷ [])) ++ vs) all h
-    (record { next = stage.Returning a p; step_is = ap (λ b. stage_if b (stage.Returning a p)) i;
+    (record {
+      next = stage.Returning a p;
+      step_is = ap (λ b. stage_if b (stage.Returning a p)) i;
       rest = inr (grammar_expr (λ k l. RestUse a (for_.Return p) k l all) ws (sign mark.Newline q ∷ vs) ((ws ++ (sign mark.Newline q ∷ [])) ++ vs) y z (append_assoc ws (sign mark.Newline q ∷ []) vs)
-        (line_is a (stmt.give p (Some y)) q vs (sign mark.Newline q ∷ vs) all refl r)) })
+          (line_is a (stmt.give p (Some y)) q vs (sign mark.Newline q ∷ vs) all refl r));
+    })
 statement_on a d us vs ts t x all n (s.print e p q i j ws w es k l) h r =
     on_first a t (sign mark.Print p) ts (tok what.Open q ∷ ((ws ++ (tok what.Close i ∷ sign mark.Newline j ∷ [])) ++ vs)) all h
-    (record { next = stage.PrintWord a; step_is = refl;
-      rest = record { place = q; more = (ws ++ (tok what.Close i ∷ sign mark.Newline j ∷ [])) ++ vs; split = refl;
-        rest = record { part = ws; weight = w; args = es; place = i; more = sign mark.Newline j ∷ vs; derives = k; light = l; split = append_assoc ws (tok what.Close i ∷ sign mark.Newline j ∷ []) vs;
-          rest = line_is a (stmt.print q (exprs es)) j vs (sign mark.Newline j ∷ vs) all refl r } } })
+    (record {
+      next = stage.PrintWord a;
+      step_is = refl;
+      rest = record {
+        place = q;
+        more = (ws ++ (tok what.Close i ∷ sign mark.Newline j ∷ [])) ++ vs;
+        split = refl;
+        rest = record {
+          part = ws;
+          weight = w;
+          args = es;
+          place = i;
+          more = sign mark.Newline j ∷ vs;
+          derives = k;
+          light = l;
+          split = append_assoc ws (tok what.Close i ∷ sign mark.Newline j ∷ []) vs;
+          rest = line_is a (stmt.print q (exprs es)) j vs (sign mark.Newline j ∷ vs) all refl r;
+        };
+      };
+    })
 statement_on a d us vs ts t x all n (s.assign e p q i y ws z k) h r =
     on_first a t (tok (what.Name y) p) ts (sign mark.Equals q ∷ ((ws ++ (sign mark.Newline i ∷ [])) ++ vs)) all h
-    (record { next = stage.Named a (word y p); step_is = refl;
-      rest = inl (record { place = q; more = (ws ++ (sign mark.Newline i ∷ [])) ++ vs; split = refl;
+    (record {
+      next = stage.Named a (word y p);
+      step_is = refl;
+      rest = inl (record {
+        place = q;
+        more = (ws ++ (sign mark.Newline i ∷ [])) ++ vs;
+        split = refl;
         rest = inl (grammar_expr (λ g l. RestUse a (for_.Assign (word y p) None) g l all) ws (sign mark.Newline i ∷ vs) ((ws ++ (sign mark.Newline i ∷ [])) ++ vs) z k (append_assoc ws (sign mark.Newline i ∷ []) vs)
-          (line_is a (stmt.assign (word y p) None z) i vs (sign mark.Newline i ∷ vs) all refl r)) }) })
+            (line_is a (stmt.assign (word y p) None z) i vs (sign mark.Newline i ∷ vs) all refl r));
+      });
+    })
 statement_on a d us vs ts t x all n (s.declare e p q i j y xs b ws z k l) h r =
     let g = type_goes heaviest xs b k in
     on_first a t (tok (what.Name y) p) ts (sign mark.Colon q ∷ ((xs ++ (sign mark.Equals i ∷ (ws ++ (sign mark.Newline j ∷ [])))) ++ vs)) all h
-    (record { next = stage.Named a (word y p); step_is = refl;
-      rest = inr (inl (record { place = q; more = (xs ++ (sign mark.Equals i ∷ (ws ++ (sign mark.Newline j ∷ [])))) ++ vs; split = refl;
-        rest = record { part = xs; more = sign mark.Equals i ∷ ((ws ++ (sign mark.Newline j ∷ [])) ++ vs); tree = b; weight = g.0; goes = g.1; split = append_assoc xs (sign mark.Equals i ∷ (ws ++ (sign mark.Newline j ∷ []))) vs;
-          rest = record { place = i; more = (ws ++ (sign mark.Newline j ∷ [])) ++ vs; split = refl;
+    (record {
+      next = stage.Named a (word y p);
+      step_is = refl;
+      rest = inr (inl (record {
+        place = q;
+        more = (xs ++ (sign mark.Equals i ∷ (ws ++ (sign mark.Newline j ∷ [])))) ++ vs;
+        split = refl;
+        rest = record {
+          part = xs;
+          more = sign mark.Equals i ∷ ((ws ++ (sign mark.Newline j ∷ [])) ++ vs);
+          tree = b;
+          weight = g.0;
+          goes = g.1;
+          split = append_assoc xs (sign mark.Equals i ∷ (ws ++ (sign mark.Newline j ∷ []))) vs;
+          rest = record {
+            place = i;
+            more = (ws ++ (sign mark.Newline j ∷ [])) ++ vs;
+            split = refl;
             rest = grammar_expr (λ f m. RestUse a (for_.Assign (word y p) (Some b)) f m all) ws (sign mark.Newline j ∷ vs) ((ws ++ (sign mark.Newline j ∷ [])) ++ vs) z l (append_assoc ws (sign mark.Newline j ∷ []) vs)
-              (line_is a (stmt.assign (word y p) (Some b) z) j vs (sign mark.Newline j ∷ vs) all refl r) } } })) })
+                (line_is a (stmt.assign (word y p) (Some b) z) j vs (sign mark.Newline j ∷ vs) all refl r);
+          };
+        };
+      }));
+    })
 statement_on a d us vs ts t x all n (s.write e p q i j y xs w o ws z k l m) h r =
     let value = sign mark.Equals i ∷ (ws ++ (sign mark.Newline j ∷ [])) in
     plain_start a t ts all
-    (inr (record { part = xs; more = (tok what.Dot p ∷ tok (what.Name y) q ∷ value) ++ vs; tree = o; weight = w; goes = postfix_goes heaviest xs w o k l; light = l;
+    (inr (record {
+      part = xs;
+      more = (tok what.Dot p ∷ tok (what.Name y) q ∷ value) ++ vs;
+      tree = o;
+      weight = w;
+      goes = postfix_goes heaviest xs w o k l;
+      light = l;
       split = h ∙ append_assoc xs (tok what.Dot p ∷ tok (what.Name y) q ∷ value) vs;
-      rest = record { place = p; more = (tok (what.Name y) q ∷ value) ++ vs; split = refl;
-        rest = record { name = y; place = q; more = value ++ vs; split = refl;
-          rest = record { place = i; more = (ws ++ (sign mark.Newline j ∷ [])) ++ vs; split = refl;
+      rest = record {
+        place = p;
+        more = (tok (what.Name y) q ∷ value) ++ vs;
+        split = refl;
+        rest = record {
+          name = y;
+          place = q;
+          more = value ++ vs;
+          split = refl;
+          rest = record {
+            place = i;
+            more = (ws ++ (sign mark.Newline j ∷ [])) ++ vs;
+            split = refl;
             rest = grammar_expr (λ f g. RestUse a (for_.Write o (word y q)) f g all) ws (sign mark.Newline j ∷ vs) ((ws ++ (sign mark.Newline j ∷ [])) ++ vs) z m (append_assoc ws (sign mark.Newline j ∷ []) vs)
-              (line_is a (stmt.write o (word y q) z) j vs (sign mark.Newline j ∷ vs) all refl r) } } } }))
+                (line_is a (stmt.write o (word y q) z) j vs (sign mark.Newline j ∷ vs) all refl r);
+          };
+        };
+      };
+    }))
 statement_on a d us vs ts t x all n (s.start e p q i j k l y ws w z es m o) h r =
     on_first a t (tok (what.Name y) p) ts (sign mark.Equals q ∷ sign mark.Start i ∷ tok what.Open j ∷ ((ws ++ (tok what.Close k ∷ sign mark.Newline l ∷ [])) ++ vs)) all h
-    (record { next = stage.Named a (word y p); step_is = refl;
-      rest = inl (record { place = q; more = sign mark.Start i ∷ tok what.Open j ∷ ((ws ++ (tok what.Close k ∷ sign mark.Newline l ∷ [])) ++ vs); split = refl;
-        rest = inr (record { place = i; more = tok what.Open j ∷ ((ws ++ (tok what.Close k ∷ sign mark.Newline l ∷ [])) ++ vs); split = refl;
-          rest = record { place = j; more = (ws ++ (tok what.Close k ∷ sign mark.Newline l ∷ [])) ++ vs; split = refl;
-            rest = record { part = ws; weight = w; args = z ∷ es; place = k; more = sign mark.Newline l ∷ vs; derives = m; light = o; split = append_assoc ws (tok what.Close k ∷ sign mark.Newline l ∷ []) vs;
-              rest = line_is a (stmt.start (word y p) j z (exprs es)) l vs (sign mark.Newline l ∷ vs) all refl r } } }) }) })
+    (record {
+      next = stage.Named a (word y p);
+      step_is = refl;
+      rest = inl (record {
+        place = q;
+        more = sign mark.Start i ∷ tok what.Open j ∷ ((ws ++ (tok what.Close k ∷ sign mark.Newline l ∷ [])) ++ vs);
+        split = refl;
+        rest = inr (record {
+          place = i;
+          more = tok what.Open j ∷ ((ws ++ (tok what.Close k ∷ sign mark.Newline l ∷ [])) ++ vs);
+          split = refl;
+          rest = record {
+            place = j;
+            more = (ws ++ (tok what.Close k ∷ sign mark.Newline l ∷ [])) ++ vs;
+            split = refl;
+            rest = record {
+              part = ws;
+              weight = w;
+              args = z ∷ es;
+              place = k;
+              more = sign mark.Newline l ∷ vs;
+              derives = m;
+              light = o;
+              split = append_assoc ws (tok what.Close k ∷ sign mark.Newline l ∷ []) vs;
+              rest = line_is a (stmt.start (word y p) j z (exprs es)) l vs (sign mark.Newline l ∷ vs) all refl r;
+            };
+          };
+        });
+      });
+    })
 statement_on a d us vs ts t x all n (s.plain e q ws y z) h r =
     plain_start a t ts all
     (inl (grammar_expr (λ k l. RestLine a (stmt.plain k) l all) ws (sign mark.Newline q ∷ vs) (t ∷ ts) y z (h ∙ append_assoc ws (sign mark.Newline q ∷ []) vs)
@@ -226,20 +314,34 @@ statement_on a d us vs ts t x all n (s.plain e q ws y z) h r =
 statement_on a d us vs ts t x all n (s.if_any e p q ws y xs ss zs bs el i j k l) h r =
     let tail = xs ++ zs in
     on_first a t (sign mark.If p) ts ((ws ++ (sign mark.Colon q ∷ tail)) ++ vs) all h
-    (record { next = inside a (for_.Branch []); step_is = ap (λ b. stage_if b (inside a (for_.Branch []))) (lt-ltb (depth a) deepest (omega (arith, n, i)));
+    (record {
+      next = inside a (for_.Branch []);
+      step_is = ap (λ b. stage_if b (inside a (for_.Branch []))) (lt-ltb (depth a) deepest (omega (arith, n, i)));
       rest = grammar_expr (λ f g. RestUse a (for_.Branch []) f g all) ws (sign mark.Colon q ∷ (tail ++ vs)) ((ws ++ (sign mark.Colon q ∷ tail)) ++ vs) y j (append_assoc ws (sign mark.Colon q ∷ tail) vs)
-        (record { place = q; more = tail ++ vs; split = refl;
-          rest = subst (λ (g : List Spelled). RestHead a (head.Branch [] y) g all) (sym (append_assoc xs zs vs))
-            (block_is a (head.Branch [] y) xs (zs ++ vs) ss all (subst (λ (m : ℕ). DerivesBlock (is_def a.floor) (suc m) xs ss) (sym n) k)
-            (leaves_branch a.floor a.opened a.done [] y ss (zs ++ vs) all (block_some (is_def a.floor) (suc e) xs ss k)
-            (behind a.floor a.opened a.done (branch y ss ∷ []) bs el zs vs (zs ++ vs) all (subst (λ (m : ℕ). DerivesTail (is_def a.floor) m zs bs el) (sym n) l) refl r))) }) })
+          (record {
+            place = q;
+            more = tail ++ vs;
+            split = refl;
+            rest = subst (λ (g : List Spelled). RestHead a (head.Branch [] y) g all) (sym (append_assoc xs zs vs))
+                (block_is a (head.Branch [] y) xs (zs ++ vs) ss all (subst (λ (m : ℕ). DerivesBlock (is_def a.floor) (suc m) xs ss) (sym n) k)
+                (leaves_branch a.floor a.opened a.done [] y ss (zs ++ vs) all (block_some (is_def a.floor) (suc e) xs ss k)
+                (behind a.floor a.opened a.done (branch y ss ∷ []) bs el zs vs (zs ++ vs) all (subst (λ (m : ℕ). DerivesTail (is_def a.floor) m zs bs el) (sym n) l) refl r)));
+          });
+    })
 statement_on a d us vs ts t x all n (s.while e p q ws y xs ss i j k) h r =
     on_first a t (sign mark.While p) ts ((ws ++ (sign mark.Colon q ∷ xs)) ++ vs) all h
-    (record { next = inside a for_.While; step_is = ap (λ b. stage_if b (inside a for_.While)) (lt-ltb (depth a) deepest (omega (arith, n, i)));
+    (record {
+      next = inside a for_.While;
+      step_is = ap (λ b. stage_if b (inside a for_.While)) (lt-ltb (depth a) deepest (omega (arith, n, i)));
       rest = grammar_expr (λ f g. RestUse a for_.While f g all) ws (sign mark.Colon q ∷ (xs ++ vs)) ((ws ++ (sign mark.Colon q ∷ xs)) ++ vs) y j (append_assoc ws (sign mark.Colon q ∷ xs) vs)
-        (record { place = q; more = xs ++ vs; split = refl;
-          rest = block_is a (head.While y) xs vs ss all (subst (λ (m : ℕ). DerivesBlock (is_def a.floor) (suc m) xs ss) (sym n) k)
-            (leaves_while a.floor a.opened a.done y ss vs all (block_some (is_def a.floor) (suc e) xs ss k) r) }) })
+          (record {
+            place = q;
+            more = xs ++ vs;
+            split = refl;
+            rest = block_is a (head.While y) xs vs ss all (subst (λ (m : ℕ). DerivesBlock (is_def a.floor) (suc m) xs ss) (sym n) k)
+                (leaves_while a.floor a.opened a.done y ss vs all (block_some (is_def a.floor) (suc e) xs ss k) r);
+          });
+    })
 
 -- ---- classes and functions
 
@@ -270,7 +372,7 @@ def_on_block before done p q r u v w x us xs rs a bs ss k l (indented d i j z cs
         goes = def_goes x q r u v i j us rs xs a k l;
         split = refl;
         rest = unroll_body before h [] cs (sign mark.Dedent z ∷ vs) ss all (any_stmts true 1 cs ss m)
-          (closes (floor.Def before h) [] ss z vs all (leaves_def before h ss vs all (stmts_some true 1 cs ss m) rest));
+            (closes (floor.Def before h) [] ss z vs all (leaves_def before h ss vs all (stmts_some true 1 cs ss m) rest));
       };
     })
 
@@ -322,22 +424,30 @@ behind_tail a d bs cs el us vs ts t all n (s.no_else e) h r =
 behind_tail a d bs cs el us vs ts t all n (s.elif e p q ws y xs ss zs ks el' j k l) h r =
     let tail = xs ++ zs in
     let rest = grammar_expr (λ f g. RestUse a (for_.Branch bs) f g all) ws (sign mark.Colon q ∷ (tail ++ vs)) ((ws ++ (sign mark.Colon q ∷ tail)) ++ vs) y j (append_assoc ws (sign mark.Colon q ∷ tail) vs)
-        (record { place = q; more = tail ++ vs; split = refl;
-          rest = subst (λ (g : List Spelled). RestHead a (head.Branch bs y) g all) (sym (append_assoc xs zs vs))
-            (block_is a (head.Branch bs y) xs (zs ++ vs) ss all (subst (λ (m : ℕ). DerivesBlock (is_def a.floor) (suc m) xs ss) (sym n) k)
-            (leaves_branch a.floor a.opened a.done bs y ss (zs ++ vs) all (block_some (is_def a.floor) (suc e) xs ss k)
-            (behind a.floor a.opened a.done (bs ++ (branch y ss ∷ [])) ks el zs vs (zs ++ vs) all (subst (λ (m : ℕ). DerivesTail (is_def a.floor) m zs ks el) (sym n) l) refl
-              (subst (λ (gs : List Branch). RestAt (added a (stmt.if_any (branches gs) el)) vs all) (sym (append_assoc bs (branch y ss ∷ []) ks)) r)))) }) in
-    record { next = inside a (for_.Branch bs);
+    (record {
+      place = q;
+      more = tail ++ vs;
+      split = refl;
+      rest = subst (λ (g : List Spelled). RestHead a (head.Branch bs y) g all) (sym (append_assoc xs zs vs))
+          (block_is a (head.Branch bs y) xs (zs ++ vs) ss all (subst (λ (m : ℕ). DerivesBlock (is_def a.floor) (suc m) xs ss) (sym n) k)
+          (leaves_branch a.floor a.opened a.done bs y ss (zs ++ vs) all (block_some (is_def a.floor) (suc e) xs ss k)
+          (behind a.floor a.opened a.done (bs ++ (branch y ss ∷ [])) ks el zs vs (zs ++ vs) all (subst (λ (m : ℕ). DerivesTail (is_def a.floor) m zs ks el) (sym n) l) refl
+          (subst (λ (gs : List Branch). RestAt (added a (stmt.if_any (branches gs) el)) vs all) (sym (append_assoc bs (branch y ss ∷ []) ks)) r))));
+    }) in
+    record {
+      next = inside a (for_.Branch bs);
       step_is = ap (λ (w : What). behind_at a bs (ending_of w) (start_step (added a (stmt.if_any (branches bs) stmt.no_else)) t)) (ap (λ (z : Spelled). z.what) (head_is h));
-      rest = subst (λ (l' : List Spelled). RestInside a (for_.Branch bs) (mode.Want []) l' all) (sym (tail_is h)) rest }
+      rest = subst (λ (l' : List Spelled). RestInside a (for_.Branch bs) (mode.Want []) l' all) (sym (tail_is h)) rest;
+    }
 behind_tail a d bs cs el us vs ts t all n (s.otherwise e p q xs ss k) h r =
     let rest = block_is a (head.Else bs) xs vs ss all (subst (λ (m : ℕ). DerivesBlock (is_def a.floor) (suc m) xs ss) (sym n) k)
-        (leaves_else a.floor a.opened a.done bs ss vs all (block_some (is_def a.floor) (suc e) xs ss k)
-        (subst (λ (gs : List Branch). RestAt (added a (stmt.if_any (branches gs) (stmt.otherwise (block ss)))) vs all) (append-nil bs) r)) in
-    record { next = stage.HeadColon a (head.Else bs);
+    (leaves_else a.floor a.opened a.done bs ss vs all (block_some (is_def a.floor) (suc e) xs ss k)
+    (subst (λ (gs : List Branch). RestAt (added a (stmt.if_any (branches gs) (stmt.otherwise (block ss)))) vs all) (append-nil bs) r)) in
+    record {
+      next = stage.HeadColon a (head.Else bs);
       step_is = ap (λ (w : What). behind_at a bs (ending_of w) (start_step (added a (stmt.if_any (branches bs) stmt.no_else)) t)) (ap (λ (z : Spelled). z.what) (head_is h));
-      rest = record { place = q; more = xs ++ vs; split = tail_is h; rest = rest } }
+      rest = record { place = q; more = xs ++ vs; split = tail_is h; rest = rest };
+    }
 
 behind_on_at : (f : Floor) (k : List Opened) (done : List Stmt) (bs : List Branch) (t : Spelled) (ts us : List Spelled) (all : List Item) → us ≡ t ∷ ts → RestBehind f k done bs us all
     → On (behind_step (around f k done) bs t) ts all

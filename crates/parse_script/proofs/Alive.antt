@@ -54,7 +54,6 @@ pub record Found (P : List Spelled → List Item → Type 0) : Type 0 where
 
 -- ---- blocks can be left
 
-
 added_found : (f : Floor) (k : List Opened) (done : List Stmt) (x : Stmt) → ((g : Floor) (d : List Stmt) → Found (RestStart g k d)) → Found (RestAt (added_to f k done x))
 added_found f (o ∷ k) done x h = h f (done ++ (x ∷ []))
 added_found (floor.Def is d) [] done x h = h (floor.Def is d) (done ++ (x ∷ []))
@@ -67,8 +66,12 @@ left_found f (opened.While before e) k x ss h =
 left_found f (opened.Branch before bs e) k x ss h =
     let cs = bs ++ (branch e (x ∷ ss) ∷ []) in
     let a = added_found f k before (stmt.if_any (branches (cs ++ [])) stmt.no_else) h in
-    record { tokens = a.tokens; items = a.items; holds = branch_left f k before bs e x ss a.tokens a.items
-      (behind f k before cs [] stmt.no_else [] a.tokens a.tokens a.items (s.no_else (length k + floor_depth f)) refl a.holds) }
+    record {
+      tokens = a.tokens;
+      items = a.items;
+      holds = branch_left f k before bs e x ss a.tokens a.items
+          (behind f k before cs [] stmt.no_else [] a.tokens a.tokens a.items (s.no_else (length k + floor_depth f)) refl a.holds);
+    }
 left_found f (opened.Else before bs) k x ss h =
     let a = added_found f k before (stmt.if_any (branches bs) (stmt.otherwise (block (x ∷ ss)))) h in
     record { tokens = a.tokens; items = a.items; holds = else_left f k before bs x ss a.tokens a.items a.holds }
@@ -81,16 +84,25 @@ start_found : (k : List Opened) (f : Floor) (done : List Stmt) → Found (RestSt
 start_found [] (floor.Script is) done = record { tokens = sign mark.End here ∷ []; items = is; holds = ends is done here }
 start_found [] (floor.Def is h) done =
     let l = passed_left (floor.Def is h) [] done (λ x ss.
-      record { tokens = sign mark.End here ∷ []; items = is ++ (item.Def (func_def h (x ∷ ss)) ∷ []);
-        holds = def_left is h x ss (sign mark.End here ∷ []) (is ++ (item.Def (func_def h (x ∷ ss)) ∷ [])) (ends (is ++ (item.Def (func_def h (x ∷ ss)) ∷ [])) [] here) }) in
-    record { tokens = sign mark.Pass here ∷ sign mark.Newline here ∷ sign mark.Dedent here ∷ l.tokens; items = l.items;
+    record {
+      tokens = sign mark.End here ∷ [];
+      items = is ++ (item.Def (func_def h (x ∷ ss)) ∷ []);
+      holds = def_left is h x ss (sign mark.End here ∷ []) (is ++ (item.Def (func_def h (x ∷ ss)) ∷ [])) (ends (is ++ (item.Def (func_def h (x ∷ ss)) ∷ [])) [] here);
+    }) in
+    record {
+      tokens = sign mark.Pass here ∷ sign mark.Newline here ∷ sign mark.Dedent here ∷ l.tokens;
+      items = l.items;
       holds = statement (floor.Def is h) [] done (sign mark.Pass here ∷ sign mark.Newline here ∷ []) (sign mark.Dedent here ∷ l.tokens) (sign mark.Pass here ∷ sign mark.Newline here ∷ sign mark.Dedent here ∷ l.tokens)
-        stmt.pass l.items (s.pass 1 here here) refl (closes (floor.Def is h) [] (done ++ (stmt.pass ∷ [])) here l.tokens l.items l.holds) }
+          stmt.pass l.items (s.pass 1 here here) refl (closes (floor.Def is h) [] (done ++ (stmt.pass ∷ [])) here l.tokens l.items l.holds);
+    }
 start_found (o ∷ k) f done =
     let l = passed_left f (o ∷ k) done (λ x ss. left_found f o k x ss (λ g d. start_found k g d)) in
-    record { tokens = sign mark.Pass here ∷ sign mark.Newline here ∷ sign mark.Dedent here ∷ l.tokens; items = l.items;
+    record {
+      tokens = sign mark.Pass here ∷ sign mark.Newline here ∷ sign mark.Dedent here ∷ l.tokens;
+      items = l.items;
       holds = statement f (o ∷ k) done (sign mark.Pass here ∷ sign mark.Newline here ∷ []) (sign mark.Dedent here ∷ l.tokens) (sign mark.Pass here ∷ sign mark.Newline here ∷ sign mark.Dedent here ∷ l.tokens)
-        stmt.pass l.items (s.pass (length (o ∷ k) + floor_depth f) here here) refl (closes f (o ∷ k) (done ++ (stmt.pass ∷ [])) here l.tokens l.items l.holds) }
+          stmt.pass l.items (s.pass (length (o ∷ k) + floor_depth f) here here) refl (closes f (o ∷ k) (done ++ (stmt.pass ∷ [])) here l.tokens l.items l.holds);
+    }
 
 at_found : (a : Around) → Found (RestAt a)
 at_found a = start_found a.opened a.floor a.done
@@ -158,8 +170,11 @@ listing_found a l es =
     let f = listed_found a l es e in
     let atom = g.none here in
     let whole = g.whole_and _ _ _ (g.and_not _ _ _ (g.not_comparison _ _ _ (g.comparison_sum _ _ _ (g.sum_term _ _ _ (g.term_factor _ _ _ (g.factor_postfix _ _ _ (g.postfix_atom _ _ _ atom))))))) in
-    record { tokens = tok what.Nil here ∷ tok what.Close here ∷ f.tokens; items = f.items;
-      holds = record { part = tok what.Nil here ∷ []; weight = 1; args = e ∷ []; place = here; more = f.tokens; derives = last_arg (tok what.Nil here ∷ []) 1 e whole; light = omega arith; split = refl; rest = f.holds } }
+    record {
+      tokens = tok what.Nil here ∷ tok what.Close here ∷ f.tokens;
+      items = f.items;
+      holds = record { part = tok what.Nil here ∷ []; weight = 1; args = e ∷ []; place = here; more = f.tokens; derives = last_arg (tok what.Nil here ∷ []) 1 e whole; light = omega arith; split = refl; rest = f.holds };
+    }
 
 argument_found : (a : Around) (l : Listed) (es : List Expr) (m : Mode) → Reached m → Found (λ ts all. NextExpr m (λ e us. RestArgument a l (es ++ (e ∷ [])) us all) ts)
 argument_found a l es m r =

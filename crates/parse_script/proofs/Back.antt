@@ -110,8 +110,16 @@ inside_sound a u m t n r h =
 pub plain_back : (a : Around) (m k : Mode) (t : Spelled) (ts : List Spelled) (all : List Item) → step heaviest m t ≡ Some k → RestPlain a k ts all → RestPlain a m (t ∷ ts) all
 plain_back a m k t ts all e (inl r) = inl (expr_back m k t _ ts e r)
 plain_back a m k t ts all e (inr r) =
-    inr (record { part = t ∷ r.part; more = r.more; tree = r.tree; weight = r.weight; goes = go m k (mode.Have (held [] r.tree r.weight)) t r.part e r.goes; light = r.light;
-      split = ap (λ (l : List Spelled). t ∷ l) r.split; rest = r.rest })
+    inr (record {
+      part = t ∷ r.part;
+      more = r.more;
+      tree = r.tree;
+      weight = r.weight;
+      goes = go m k (mode.Have (held [] r.tree r.weight)) t r.part e r.goes;
+      light = r.light;
+      split = ap (λ (l : List Spelled). t ∷ l) r.split;
+      rest = r.rest;
+    })
 
 found_plain : (a : Around) (o : Option Expr) (w : What) (n : Stage) → plain_found a o (ending_of w) ≡ Some n
     → (e : Expr) × (o ≡ Some e) × (w ≡ what.Mark mark.Newline) × (added_stage a (stmt.plain e) ≡ n)
@@ -152,8 +160,16 @@ at_dot a m w o n e = inr e
 attribute_back : (a : Around) (o : Expr) (w : ℕ) (p : Place) (x : Word) (ts : List Spelled) (all : List Item) → w ≤ heaviest → RestAttribute a o w x ts all
     → RestPlain a (mode.Have (held [] o w)) (tok what.Dot p ∷ tok (what.Name x.text) x.place ∷ ts) all
 attribute_back a o w p x ts all l (inl v) =
-    inr (record { part = []; more = tok what.Dot p ∷ tok (what.Name x.text) x.place ∷ ts; tree = o; weight = w; goes = stay (mode.Have (held [] o w)); light = l; split = refl;
-      rest = record { place = p; more = tok (what.Name x.text) x.place ∷ ts; split = refl; rest = record { name = x.text; place = x.place; more = ts; split = refl; rest = v } } })
+    inr (record {
+      part = [];
+      more = tok what.Dot p ∷ tok (what.Name x.text) x.place ∷ ts;
+      tree = o;
+      weight = w;
+      goes = stay (mode.Have (held [] o w));
+      light = l;
+      split = refl;
+      rest = record { place = p; more = tok (what.Name x.text) x.place ∷ ts; split = refl; rest = record { name = x.text; place = x.place; more = ts; split = refl; rest = v } };
+    })
 attribute_back a o w p x ts all l (inr q) =
     plain_back a (mode.Have (held [] o w)) (mode.Dotted (held [] o w)) (tok what.Dot p) (tok (what.Name x.text) x.place ∷ ts) all (dot_goes o w p q.0)
     (plain_back a (mode.Dotted (held [] o w)) (mode.Have (held [] (expr.read o x) (suc w))) (tok (what.Name x.text) x.place) ts all (field_goes o w x) q.1)
@@ -162,16 +178,16 @@ pub plain_sound : (a : Around) (m : Mode) (t : Spelled) (n : Stage) → Reached 
 plain_sound a m t n r h =
     elim (at_dot a m t.what (plain_on a m t) n h) [
       | inl d ↦ (
-      let reached = subst Reached d.mode_is r in
-      sound_at _ t (stage.Dotted a d.tree d.weight) n d.next
-      (record {
-        live = reached;
-        back = λ ts all q.
-            subst (λ (k : Mode). RestPlain a k (t ∷ ts) all) (sym d.mode_is)
-            (subst (λ (u : Spelled). RestPlain a (mode.Have (held [] d.tree d.weight)) (u ∷ ts) all) (λ i. tok (sym d.dot i) t.place)
-            (subst (λ (l : List Spelled). RestPlain a (mode.Have (held [] d.tree d.weight)) (tok what.Dot t.place ∷ l) all) (sym q.split)
-            (attribute_back a d.tree d.weight t.place (word q.name q.place) q.more all (held_light d.tree d.weight reached) q.rest)));
-      }))
+          let reached = subst Reached d.mode_is r in
+          sound_at _ t (stage.Dotted a d.tree d.weight) n d.next
+          (record {
+            live = reached;
+            back = λ ts all q.
+                subst (λ (k : Mode). RestPlain a k (t ∷ ts) all) (sym d.mode_is)
+                (subst (λ (u : Spelled). RestPlain a (mode.Have (held [] d.tree d.weight)) (u ∷ ts) all) (λ i. tok (sym d.dot i) t.place)
+                (subst (λ (l : List Spelled). RestPlain a (mode.Have (held [] d.tree d.weight)) (tok what.Dot t.place ∷ l) all) (sym q.split)
+                (attribute_back a d.tree d.weight t.place (word q.name q.place) q.more all (held_light d.tree d.weight reached) q.rest)));
+          }))
       | inr e ↦ plain_on_sound a m t n r e
     ]
 
@@ -219,12 +235,12 @@ named_sound a x t n h =
     elim (at_named a x t.what (plain_step a (mode.Have (held [] (expr.local x) 1)) t) n h).which [
       | inl e ↦ sound_at _ t (stage.Assigning a x) n e.1 (record { live = tt; back = λ ts all q. inl (next_is (what.Mark mark.Equals) _ t ts e.0 q) })
       | inr f ↦
-      elim f [
-        | inl e ↦ sound_at _ t (stage.Typed a x (type_mode.Want [])) n e.1 (record { live = reached_start; back = λ ts all q. inr (inl (next_is (what.Mark mark.Colon) _ t ts e.0 q)) })
-        | inr e ↦ (
-        let s = plain_sound a (mode.Have (held [] (expr.local x) 1)) t n (named_reached x) e in
-        record { live = s.live; back = λ ts all q. inr (inr (s.back ts all q)) })
-      ]
+          elim f [
+            | inl e ↦ sound_at _ t (stage.Typed a x (type_mode.Want [])) n e.1 (record { live = reached_start; back = λ ts all q. inr (inl (next_is (what.Mark mark.Colon) _ t ts e.0 q)) })
+            | inr e ↦ (
+                let s = plain_sound a (mode.Have (held [] (expr.local x) 1)) t n (named_reached x) e in
+                record { live = s.live; back = λ ts all q. inr (inr (s.back ts all q)) })
+          ]
     ]
 
 at_typed : (a : Around) (x : Word) (o : Option Weighed) (w : What) (n : Stage) → typed_end a x o (ending_of w) ≡ Some n
@@ -253,8 +269,8 @@ assigning_sound a x t n h =
     elim (at_assigning a x t.what (inside_step a (for_.Assign x None) (mode.Want []) t) n h) [
       | inl e ↦ sound_at _ t (stage.StartWord a x) n e.1 (record { live = tt; back = λ ts all q. inr (next_is (what.Mark mark.Start) _ t ts e.0 q) })
       | inr e ↦ (
-      let s = inside_sound a (for_.Assign x None) (mode.Want []) t n begins e in
-      record { live = s.live; back = λ ts all q. inl (s.back ts all q) })
+          let s = inside_sound a (for_.Assign x None) (mode.Want []) t n begins e in
+          record { live = s.live; back = λ ts all q. inl (s.back ts all q) })
     ]
 
 at_returning : (a : Around) (p : Place) (w : What) (s : Option Stage) (n : Stage) → returning_at a p (ending_of w) s ≡ Some n
@@ -267,8 +283,8 @@ returning_sound a p t n h =
     elim (at_returning a p t.what (inside_step a (for_.Return p) (mode.Want []) t) n h) [
       | inl e ↦ sound_at _ t (added_stage a (stmt.give p None)) n e.1 (record { live = tt; back = λ ts all q. inl (next_is (what.Mark mark.Newline) _ t ts e.0 q) })
       | inr e ↦ (
-      let s = inside_sound a (for_.Return p) (mode.Want []) t n begins e in
-      record { live = s.live; back = λ ts all q. inr (s.back ts all q) })
+          let s = inside_sound a (for_.Return p) (mode.Want []) t n begins e in
+          record { live = s.live; back = λ ts all q. inr (s.back ts all q) })
     ]
 
 -- ---- arguments
@@ -307,30 +323,30 @@ argument_listing a l es ts all r =
     let d = expr_sound heaviest (omega arith) r.part x.0 r.tree x.1 x.2 in
     elim r.rest [
       | inl c ↦ (
-      let s = c.rest in
-      record {
-        part = r.part ++ (tok what.Comma c.place ∷ s.part);
-        weight = max d.0 s.weight;
-        args = r.tree ∷ s.args;
-        place = s.place;
-        more = s.more;
-        derives = more_args c.place r.part s.part d.0 s.weight r.tree s.args d.1 s.derives;
-        light = max-le d.2 s.light;
-        split = r.split ∙ ap (λ (l : List Spelled). r.part ++ l) (c.split ∙ ap (λ (l : List Spelled). tok what.Comma c.place ∷ l) s.split) ∙ sym (append_assoc r.part (tok what.Comma c.place ∷ s.part) (tok what.Close s.place ∷ s.more));
-        rest = subst (λ (fs : List Expr). RestListed a l fs s.more all) (append_assoc es (r.tree ∷ []) s.args) s.rest;
-      })
+          let s = c.rest in
+          record {
+            part = r.part ++ (tok what.Comma c.place ∷ s.part);
+            weight = max d.0 s.weight;
+            args = r.tree ∷ s.args;
+            place = s.place;
+            more = s.more;
+            derives = more_args c.place r.part s.part d.0 s.weight r.tree s.args d.1 s.derives;
+            light = max-le d.2 s.light;
+            split = r.split ∙ ap (λ (l : List Spelled). r.part ++ l) (c.split ∙ ap (λ (l : List Spelled). tok what.Comma c.place ∷ l) s.split) ∙ sym (append_assoc r.part (tok what.Comma c.place ∷ s.part) (tok what.Close s.place ∷ s.more));
+            rest = subst (λ (fs : List Expr). RestListed a l fs s.more all) (append_assoc es (r.tree ∷ []) s.args) s.rest;
+          })
       | inr c ↦
-      record {
-        part = r.part;
-        weight = d.0;
-        args = r.tree ∷ [];
-        place = c.place;
-        more = c.more;
-        derives = last_arg r.part d.0 r.tree d.1;
-        light = d.2;
-        split = r.split ∙ ap (λ (l : List Spelled). r.part ++ l) c.split;
-        rest = c.rest;
-      }
+          record {
+            part = r.part;
+            weight = d.0;
+            args = r.tree ∷ [];
+            place = c.place;
+            more = c.more;
+            derives = last_arg r.part d.0 r.tree d.1;
+            light = d.2;
+            split = r.split ∙ ap (λ (l : List Spelled). r.part ++ l) c.split;
+            rest = c.rest;
+          }
     ]
 
 at_listing : (a : Around) (l : Listed) (es : List Expr) (w : What) (o : Option Stage) (n : Stage) → listing_at a l es (ending_of w) o ≡ Some n
@@ -343,14 +359,23 @@ pub listing_sound : (a : Around) (l : Listed) (es : List Expr) (t : Spelled) (n 
 listing_sound a l es t n h =
     elim (at_listing a l es t.what (argument_step a l es (mode.Want []) t) n h) [
       | inl e ↦ (
-      let s = listed_sound a l es t n e.1 in
-      record {
-        live = s.0;
-        back = λ ts all q.
-            record { part = []; weight = 0; args = []; place = t.place; more = ts; derives = no_args; light = omega arith; split = λ i. tok (e.0 i) t.place ∷ ts;
-              rest = subst (λ (fs : List Expr). RestListed a l fs ts all) (sym (append-nil es)) (s.1 ts all q) };
-      })
+          let s = listed_sound a l es t n e.1 in
+          record {
+            live = s.0;
+            back = λ ts all q.
+                record {
+                  part = [];
+                  weight = 0;
+                  args = [];
+                  place = t.place;
+                  more = ts;
+                  derives = no_args;
+                  light = omega arith;
+                  split = λ i. tok (e.0 i) t.place ∷ ts;
+                  rest = subst (λ (fs : List Expr). RestListed a l fs ts all) (sym (append-nil es)) (s.1 ts all q);
+                };
+          })
       | inr e ↦ (
-      let s = argument_sound a l es (mode.Want []) t n begins e in
-      record { live = s.live; back = λ ts all q. argument_listing a l es (t ∷ ts) all (s.back ts all q) })
+          let s = argument_sound a l es (mode.Want []) t n begins e in
+          record { live = s.live; back = λ ts all q. argument_listing a l es (t ∷ ts) all (s.back ts all q) })
     ]

@@ -331,7 +331,7 @@ def_begun bs k p ts all r =
     let w = word h.name h.at_name_ in
     let inner = sign mark.Newline h.at_newline ∷ sign mark.Indent h.at_indent ∷ (b.part ++ (sign mark.Dedent b.place ∷ [])) in
     let d = defs.def p h.at_name_ h.at_open h.at_close h.at_colon_ h.name h.params_part h.params h.result_part h.type inner b.stmts h.derives_params h.derives_result
-      (indented 1 h.at_newline h.at_indent b.place b.part b.stmts b.derives) in
+    (indented 1 h.at_newline h.at_indent b.place b.part b.stmts b.derives) in
     let same : func_def r.tree b.stmts ≡ record { name = w; params = h.params; result = h.type; body = b.stmts } = ap (λ (z : DefHead). func_def z b.stmts) h.head_is_ in
     def bs k
     (sign mark.Def p ∷ tok (what.Name h.name) h.at_name_ ∷ tok what.Open h.at_open ∷ (h.params_part ++ (tok what.Close h.at_close ∷ (h.result_part ++ (sign mark.Colon h.at_colon_ ∷ inner)))))
@@ -364,9 +364,12 @@ def_at_sound (floor.Def is h) k done t n i e = none_some _ e
 end_at_sound : (f : Floor) (k : List Opened) (done : List Stmt) (t : Spelled) (n : Stage) → t.what ≡ what.Mark mark.End → end_at f k ≡ Some n → Sound (λ ts all. RestStart f k done ts all) t n
 end_at_sound (floor.Script is) [] done t n i e =
     sound_at _ t (stage.Ended is) n (some_is e)
-    (record { live = tt; back = λ ts all r.
-      subst (λ (as_ : List Item). RestStart (floor.Script is) [] done (t ∷ ts) as_) (sym r.1)
-      (subst (λ (l : List Spelled). RestStart (floor.Script is) [] done l is) ((λ j. tok (sym i j) t.place ∷ []) ∙ ap (λ (l : List Spelled). t ∷ l) (sym r.0)) (ends is done t.place)) })
+    (record {
+      live = tt;
+      back = λ ts all r.
+          subst (λ (as_ : List Item). RestStart (floor.Script is) [] done (t ∷ ts) as_) (sym r.1)
+          (subst (λ (l : List Spelled). RestStart (floor.Script is) [] done l is) ((λ j. tok (sym i j) t.place ∷ []) ∙ ap (λ (l : List Spelled). t ∷ l) (sym r.0)) (ends is done t.place));
+    })
 end_at_sound (floor.Script is) (o ∷ k) done t n i e = none_some _ e
 end_at_sound (floor.Def is h) k done t n i e = none_some _ e
 

@@ -91,11 +91,19 @@ pass_go w u v z =
 
 pub class_goes : (ts : List Spelled) (c : ClassDef) → DerivesClass ts c → ClassRun ts c
 class_goes ts c (no_fields p q r s t u v z x) =
-    record { place = p; more = tok (what.Name x) q ∷ sign mark.Colon r ∷ sign mark.Newline s ∷ sign mark.Indent t ∷ sign mark.Pass u ∷ sign mark.Newline v ∷ sign mark.Dedent z ∷ []; split = refl;
-      goes = to_body x q r s t (sign mark.Pass u ∷ sign mark.Newline v ∷ sign mark.Dedent z ∷ []) (class_def (word x q) []) (pass_go (word x q) u v z) }
+    record {
+      place = p;
+      more = tok (what.Name x) q ∷ sign mark.Colon r ∷ sign mark.Newline s ∷ sign mark.Indent t ∷ sign mark.Pass u ∷ sign mark.Newline v ∷ sign mark.Dedent z ∷ [];
+      split = refl;
+      goes = to_body x q r s t (sign mark.Pass u ∷ sign mark.Newline v ∷ sign mark.Dedent z ∷ []) (class_def (word x q) []) (pass_go (word x q) u v z);
+    }
 class_goes ts c (fields p q r s t u x us fs d) =
-    record { place = p; more = tok (what.Name x) q ∷ sign mark.Colon r ∷ sign mark.Newline s ∷ sign mark.Indent t ∷ (us ++ (sign mark.Dedent u ∷ [])); split = refl;
-      goes = to_body x q r s t (us ++ (sign mark.Dedent u ∷ [])) (class_def (word x q) fs) (fields_go (word x q) (stage.Body (word x q)) [] u us fs (λ y k. refl) d) }
+    record {
+      place = p;
+      more = tok (what.Name x) q ∷ sign mark.Colon r ∷ sign mark.Newline s ∷ sign mark.Indent t ∷ (us ++ (sign mark.Dedent u ∷ []));
+      split = refl;
+      goes = to_body x q r s t (us ++ (sign mark.Dedent u ∷ [])) (class_def (word x q) fs) (fields_go (word x q) (stage.Body (word x q)) [] u us fs (λ y k. refl) d);
+    }
 
 -- ---- what is read is in the grammar
 
@@ -237,19 +245,19 @@ mutual
       let s = stepped (stage.Fields w fs) t ts c g in
       elim (at_fields w fs t.place t.what s.next s.step_is) [
         | inl n ↦ (
-        let r = field_left w fs (word n.name t.place) ts c (subst (λ (z : ClassStage). Goes class_step z ts (stage.Done c)) n.next s.run) in
-        subst (λ (u : Spelled). FieldsRest w fs (u ∷ ts) c) (λ i. tok (sym n.token i) t.place)
-        (field_rest w fs t.place r.0 n.name r.1 ts c r.2 r.3))
+            let r = field_left w fs (word n.name t.place) ts c (subst (λ (z : ClassStage). Goes class_step z ts (stage.Done c)) n.next s.run) in
+            subst (λ (u : Spelled). FieldsRest w fs (u ∷ ts) c) (λ i. tok (sym n.token i) t.place)
+            (field_rest w fs t.place r.0 n.name r.1 ts c r.2 r.3))
         | inr n ↦ (
-        let d = done_ends (class_def w fs) c ts (subst (λ (z : ClassStage). Goes class_step z ts (stage.Done c)) n.1 s.run) in
-        record {
-          part = [];
-          more_of = [];
-          place = t.place;
-          any = nothing;
-          split = ap (λ (l : List Spelled). t ∷ l) d.0 ∙ (λ i. tok (n.0 i) t.place ∷ []);
-          tree = d.1 ∙ ap (class_def w) (sym (append-nil fs));
-        })
+            let d = done_ends (class_def w fs) c ts (subst (λ (z : ClassStage). Goes class_step z ts (stage.Done c)) n.1 s.run) in
+            record {
+              part = [];
+              more_of = [];
+              place = t.place;
+              any = nothing;
+              split = ap (λ (l : List Spelled). t ∷ l) d.0 ∙ (λ i. tok (n.0 i) t.place ∷ []);
+              tree = d.1 ∙ ap (class_def w) (sym (append-nil fs));
+            })
       ]
 
   field_left : (w : Word) (fs : List FieldDef) (x : Word) (ts : List Spelled) (c : ClassDef) → Goes class_step (stage.Field w fs x) ts (stage.Done c)
@@ -349,12 +357,12 @@ body_left p q r s t x (u ∷ ts) c g =
     let y = stepped (stage.Body (word x q)) u ts c g in
     elim (at_body (word x q) u.place u.what y.next y.step_is) [
       | inl n ↦ (
-      let f = field_left (word x q) [] (word n.name u.place) ts c (subst (λ (z : ClassStage). Goes class_step z ts (stage.Done c)) n.next y.run) in
-      let rest = field_rest (word x q) [] u.place f.0 n.name f.1 ts c f.2 f.3 in
-      subst (λ (k : Spelled). DerivesClass (headed p x q r s t (k ∷ ts)) c) (λ i. tok (sym n.token i) u.place) (some_of p q r s t rest.place x (tok (what.Name n.name) u.place) ts c rest.part rest.more_of rest.any rest.split rest.tree refl))
+          let f = field_left (word x q) [] (word n.name u.place) ts c (subst (λ (z : ClassStage). Goes class_step z ts (stage.Done c)) n.next y.run) in
+          let rest = field_rest (word x q) [] u.place f.0 n.name f.1 ts c f.2 f.3 in
+          subst (λ (k : Spelled). DerivesClass (headed p x q r s t (k ∷ ts)) c) (λ i. tok (sym n.token i) u.place) (some_of p q r s t rest.place x (tok (what.Name n.name) u.place) ts c rest.part rest.more_of rest.any rest.split rest.tree refl))
       | inr n ↦
-      subst (λ (k : Spelled). DerivesClass (headed p x q r s t (k ∷ ts)) c) (λ i. tok (sym n.0 i) u.place)
-      (pass_left p q r s t u.place x ts c (subst (λ (z : ClassStage). Goes class_step z ts (stage.Done c)) n.1 y.run))
+          subst (λ (k : Spelled). DerivesClass (headed p x q r s t (k ∷ ts)) c) (λ i. tok (sym n.0 i) u.place)
+          (pass_left p q r s t u.place x ts c (subst (λ (z : ClassStage). Goes class_step z ts (stage.Done c)) n.1 y.run))
     ]
 
 pub class_sound : (p : Place) (ts : List Spelled) (c : ClassDef) → Goes class_step stage.Word ts (stage.Done c) → DerivesClass (sign mark.Class p ∷ ts) c

@@ -255,28 +255,28 @@ joined : (w : Word) (xs : List Param) (x : Word) (ts : List Spelled) (h : DefHea
 joined w xs x ts h r =
     elim r.rest [
       | inl c ↦ (
-      let s = c.rest in
-      let y = param x r.type in
-      record {
-        part = (tok (what.Name x.text) x.place ∷ r.part) ++ (tok what.Comma c.place ∷ s.part);
-        params = y ∷ s.params;
-        place = s.place;
-        more = s.more;
-        derives = more_params c.place (tok (what.Name x.text) x.place ∷ r.part) s.part y s.params r.derives s.derives;
-        split =
-            ap (λ l. tok (what.Name x.text) x.place ∷ l) (r.split ∙ ap (λ l. r.part ++ l) (c.split ∙ ap (λ l. tok what.Comma c.place ∷ l) s.split) ∙ sym (append_assoc r.part (tok what.Comma c.place ∷ s.part) (tok what.Close s.place ∷ s.more)));
-        run = run_at (stage.Closed w ((xs ++ (y ∷ [])) ++ s.params)) (stage.Closed w (xs ++ (y ∷ s.params))) s.more h (ap (stage.Closed w) (append_assoc xs (y ∷ []) s.params)) s.run;
-      })
+          let s = c.rest in
+          let y = param x r.type in
+          record {
+            part = (tok (what.Name x.text) x.place ∷ r.part) ++ (tok what.Comma c.place ∷ s.part);
+            params = y ∷ s.params;
+            place = s.place;
+            more = s.more;
+            derives = more_params c.place (tok (what.Name x.text) x.place ∷ r.part) s.part y s.params r.derives s.derives;
+            split =
+                ap (λ l. tok (what.Name x.text) x.place ∷ l) (r.split ∙ ap (λ l. r.part ++ l) (c.split ∙ ap (λ l. tok what.Comma c.place ∷ l) s.split) ∙ sym (append_assoc r.part (tok what.Comma c.place ∷ s.part) (tok what.Close s.place ∷ s.more)));
+            run = run_at (stage.Closed w ((xs ++ (y ∷ [])) ++ s.params)) (stage.Closed w (xs ++ (y ∷ s.params))) s.more h (ap (stage.Closed w) (append_assoc xs (y ∷ []) s.params)) s.run;
+          })
       | inr c ↦
-      record {
-        part = tok (what.Name x.text) x.place ∷ r.part;
-        params = param x r.type ∷ [];
-        place = c.place;
-        more = c.more;
-        derives = last_param (tok (what.Name x.text) x.place ∷ r.part) (param x r.type) r.derives;
-        split = ap (λ l. tok (what.Name x.text) x.place ∷ l) (r.split ∙ ap (λ l. r.part ++ l) c.split);
-        run = c.run;
-      }
+          record {
+            part = tok (what.Name x.text) x.place ∷ r.part;
+            params = param x r.type ∷ [];
+            place = c.place;
+            more = c.more;
+            derives = last_param (tok (what.Name x.text) x.place ∷ r.part) (param x r.type) r.derives;
+            split = ap (λ l. tok (what.Name x.text) x.place ∷ l) (r.split ∙ ap (λ l. r.part ++ l) c.split);
+            run = c.run;
+          }
     ]
 
 -- what is behind a parameter, where it is known what parameters come to
@@ -296,18 +296,18 @@ mutual
       let s = stepped (stage.Params w xs) t ts h g in
       elim (at_params w xs t.place t.what s.next s.step_is) [
         | inl n ↦
-        subst (λ (u : Spelled). ParamsRest w xs (u ∷ ts) h) (λ i. tok (sym n.token i) t.place)
-        (joined w xs (word n.name t.place) ts h (param_left w xs (word n.name t.place) ts h (run_at s.next (stage.Param w xs (word n.name t.place)) ts h n.next s.run)))
+            subst (λ (u : Spelled). ParamsRest w xs (u ∷ ts) h) (λ i. tok (sym n.token i) t.place)
+            (joined w xs (word n.name t.place) ts h (param_left w xs (word n.name t.place) ts h (run_at s.next (stage.Param w xs (word n.name t.place)) ts h n.next s.run)))
         | inr n ↦
-        record {
-          part = [];
-          params = [];
-          place = t.place;
-          more = ts;
-          derives = no_params;
-          split = λ i. tok (n.0 i) t.place ∷ ts;
-          run = run_at s.next (stage.Closed w (xs ++ [])) ts h (n.1 ∙ ap (stage.Closed w) (sym (append-nil xs))) s.run;
-        }
+            record {
+              part = [];
+              params = [];
+              place = t.place;
+              more = ts;
+              derives = no_params;
+              split = λ i. tok (n.0 i) t.place ∷ ts;
+              run = run_at s.next (stage.Closed w (xs ++ [])) ts h (n.1 ∙ ap (stage.Closed w) (sym (append-nil xs))) s.run;
+            }
       ]
 
   param_left : (w : Word) (xs : List Param) (x : Word) (ts : List Spelled) (h : DefHead) → Goes def_step (stage.Param w xs x) ts (stage.Done h) → ParamRest w xs x ts h
@@ -316,24 +316,24 @@ mutual
       let s = stepped (stage.Param w xs x) t ts h g in
       elim (at_param w xs x t.what s.next s.step_is) [
         | inl a ↦ (
-        let r = type_left w xs x (type_mode.Want []) ts h (run_at s.next (stage.Type w xs x (type_mode.Want [])) ts h a.1 s.run) in
-        record {
-          part = sign mark.Colon t.place ∷ r.part;
-          type = Some r.type;
-          more = r.more;
-          derives = typed x.place t.place x.text r.part r.type (type_sound heaviest r.part r.type r.weight r.goes);
-          split = (λ i. tok (a.0 i) t.place ∷ ts) ∙ ap (λ (l : List Spelled). sign mark.Colon t.place ∷ l) r.split;
-          rest = r.rest;
-        })
+            let r = type_left w xs x (type_mode.Want []) ts h (run_at s.next (stage.Type w xs x (type_mode.Want [])) ts h a.1 s.run) in
+            record {
+              part = sign mark.Colon t.place ∷ r.part;
+              type = Some r.type;
+              more = r.more;
+              derives = typed x.place t.place x.text r.part r.type (type_sound heaviest r.part r.type r.weight r.goes);
+              split = (λ i. tok (a.0 i) t.place ∷ ts) ∙ ap (λ (l : List Spelled). sign mark.Colon t.place ∷ l) r.split;
+              rest = r.rest;
+            })
         | inr e ↦
-        record {
-          part = [];
-          type = None;
-          more = t ∷ ts;
-          derives = bare x.place x.text;
-          split = refl;
-          rest = behind_left w (xs ++ (param x None ∷ [])) t ts h s.next (λ ys g'. params_left w ys ts h g') e s.run;
-        }
+            record {
+              part = [];
+              type = None;
+              more = t ∷ ts;
+              derives = bare x.place x.text;
+              split = refl;
+              rest = behind_left w (xs ++ (param x None ∷ [])) t ts h s.next (λ ys g'. params_left w ys ts h g') e s.run;
+            }
       ]
 
   type_left : (w : Word) (xs : List Param) (x : Word) (m : TypeMode) (ts : List Spelled) (h : DefHead) → Goes def_step (stage.Type w xs x m) ts (stage.Done h) → TypeRest w xs x m ts h
@@ -422,18 +422,18 @@ closed_left w xs (t ∷ ts) h g =
     let s = stepped (stage.Closed w xs) t ts h g in
     elim (at_closed w xs t.what s.next s.step_is) [
       | inl a ↦ (
-      let r = result_left w xs (type_mode.Want []) ts h (run_at s.next (stage.Result w xs (type_mode.Want [])) ts h a.1 s.run) in
-      record {
-        part = sign mark.Arrow t.place ∷ r.part;
-        type = Some r.type;
-        place = r.place;
-        more = r.more;
-        derives = result t.place r.part r.type (type_sound heaviest r.part r.type r.weight r.goes);
-        split = (λ i. tok (a.0 i) t.place ∷ ts) ∙ ap (λ (l : List Spelled). sign mark.Arrow t.place ∷ l) r.split;
-        run = r.run;
-      })
+          let r = result_left w xs (type_mode.Want []) ts h (run_at s.next (stage.Result w xs (type_mode.Want [])) ts h a.1 s.run) in
+          record {
+            part = sign mark.Arrow t.place ∷ r.part;
+            type = Some r.type;
+            place = r.place;
+            more = r.more;
+            derives = result t.place r.part r.type (type_sound heaviest r.part r.type r.weight r.goes);
+            split = (λ i. tok (a.0 i) t.place ∷ ts) ∙ ap (λ (l : List Spelled). sign mark.Arrow t.place ∷ l) r.split;
+            run = r.run;
+          })
       | inr a ↦
-      record { part = []; type = None; place = t.place; more = ts; derives = no_result; split = λ i. tok (a.0 i) t.place ∷ ts; run = run_at s.next (stage.Colon (def_head w xs None)) ts h a.1 s.run }
+          record { part = []; type = None; place = t.place; more = ts; derives = no_result; split = λ i. tok (a.0 i) t.place ∷ ts; run = run_at s.next (stage.Colon (def_head w xs None)) ts h a.1 s.run }
     ]
 
 record Read (v : What) (n : DefStage) (ts : List Spelled) (h : DefHead) : Type 0 where

@@ -18,3 +18,4 @@ pub mod Exact
 pub mod Runs
 pub mod EndOnly
 pub mod Loops
+pub mod Shapes

@@ -115,15 +115,14 @@ run_on text ts at d m n h g e =
 pub goes_on : (cs text : List ℕ) (ts : List Token) (at : ℕ) (d : Token) (m n : Stage) (t : Spelled) → Lexes cs ts → at < length ts → Goes script_step start (so_far text ts at) m
     → t ≡ spell text (get_or ts at d) → turn.Go n ≡ turn_of (script_step m t) → (at + 1 < length ts) × Goes script_step start (so_far text ts (at + 1)) n
 goes_on cs text ts at d m n t x h g i e =
-    let e' : turn.Go n ≡ turn_of (script_step m (spell text (get_or ts at d))) = e ∙ ap (λ u. turn_of (script_step m u)) i in
-    (
+    let e' : turn.Go n ≡ turn_of (script_step m (spell text (get_or ts at d))) = e ∙ ap (λ u. turn_of (script_step m u)) i in (
       elim (cases_lt (at + 1) (length ts)) [
         | inl l ↦ l
         | inr l ↦
-        elim (end_only m (spell text (get_or ts at d)) (spelled_end text (get_or ts at d) (last_ends cs ts at d x h l))) [
-          | inl f ↦ go_stop n _ (e' ∙ ap turn_of f)
-          | inr f ↦ go_done n f.0 _ (e' ∙ ap turn_of f.1)
-        ]
+            elim (end_only m (spell text (get_or ts at d)) (spelled_end text (get_or ts at d) (last_ends cs ts at d x h l))) [
+              | inl f ↦ go_stop n _ (e' ∙ ap turn_of f)
+              | inr f ↦ go_done n f.0 _ (e' ∙ ap turn_of f.1)
+            ]
       ],
       run_on text ts at d m n h g (went (script_step m (spell text (get_or ts at d))) n e'),
     )

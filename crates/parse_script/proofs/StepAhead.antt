@@ -72,8 +72,11 @@ class_ahead : (is : List Item) (m : ClassStage) (t : Spelled) (ts part more : Li
 class_ahead is m t ts [] more d all l g e r = absurd (not_done m d l (goes_nil class_step g))
 class_ahead is m t ts (u ∷ part) more d all l g e r =
     let c = goes_cons class_step g in
-    record { next = class_stage_of is c.0; step_is = ap (class_next is) (ap (class_step m) (head_is e) ∙ c.1);
-      rest = class_stage_on is c.0 ts all (record { part = part; more = more; tree = d; goes = c.2; split = tail_is e; rest = r }) }
+    record {
+      next = class_stage_of is c.0;
+      step_is = ap (class_next is) (ap (class_step m) (head_is e) ∙ c.1);
+      rest = class_stage_on is c.0 ts all (record { part = part; more = more; tree = d; goes = c.2; split = tail_is e; rest = r });
+    }
 
 def_is_done : (is : List Item) (c d : DefHead) (part more ts : List Spelled) (all : List Item) → Goes def_step (def_stage.Done c) part (def_stage.Done d) → ts ≡ part ++ more
     → RestAt (around (floor.Def is d) [] []) more all → RestAt (around (floor.Def is c) [] []) ts all
@@ -97,8 +100,11 @@ def_ahead : (is : List Item) (m : DefStage) (t : Spelled) (ts part more : List S
 def_ahead is m t ts [] more d all l g e r = absurd (def_not_done m d l (goes_nil def_step g))
 def_ahead is m t ts (u ∷ part) more d all l g e r =
     let c = goes_cons def_step g in
-    record { next = def_stage_of is c.0; step_is = ap (def_next is) (ap (def_step m) (head_is e) ∙ c.1);
-      rest = def_stage_on is c.0 ts all (record { part = part; more = more; tree = d; goes = c.2; split = tail_is e; rest = r }) }
+    record {
+      next = def_stage_of is c.0;
+      step_is = ap (def_next is) (ap (def_step m) (head_is e) ∙ c.1);
+      rest = def_stage_on is c.0 ts all (record { part = part; more = more; tree = d; goes = c.2; split = tail_is e; rest = r });
+    }
 
 -- ---- all stages
 

@@ -29,12 +29,7 @@ fn is_newline(ending: Ending) -> bool
 }
 
 /// The statement that an expression is the last part of, where NEWLINE is behind it.
-fn ended_line(
-    alloc: Global,
-    around: Around,
-    stmt: Stmt,
-    ending: Ending,
-) -> Result<Turn, AllocError>
+fn ended_line(alloc: Global, around: Around, stmt: Stmt, ending: Ending) -> Result<Turn, AllocError>
     ensures { IfOk result (λ n. n ≡ turn_of (ended_line around stmt ending)) }
 {
     let around = added(alloc, around, stmt)?;
@@ -154,12 +149,7 @@ pub fn plain_on(
 }
 
 /// Behind a part that was read. What has no operator or bracket open before it may be a receiver.
-fn plain_held(
-    alloc: Global,
-    around: Around,
-    held: Held,
-    token: Spelled,
-) -> Result<Turn, AllocError>
+fn plain_held(alloc: Global, around: Around, held: Held, token: Spelled) -> Result<Turn, AllocError>
     requires { IsLightMode (Mode.Have held) }
     ensures { IfOk result (λ n. n ≡ turn_of (plain_step around (Mode.Have held) token)) }
 {
@@ -266,12 +256,7 @@ pub fn target_step(
 }
 
 /// The name goes on as an expression.
-fn name_step(
-    alloc: Global,
-    around: Around,
-    name: Word,
-    token: Spelled,
-) -> Result<Turn, AllocError>
+fn name_step(alloc: Global, around: Around, name: Word, token: Spelled) -> Result<Turn, AllocError>
     ensures { IfOk result (λ n. n ≡ turn_of (plain_step around (Mode.Have (held [] (local name) 1)) token)) }
 {
     let kind = ExprKind::Local(name);

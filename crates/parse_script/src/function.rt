@@ -137,12 +137,7 @@ fn def_closed(alloc: Global, name: Word, params: Items<Param>, what: What) -> De
     }
 }
 
-fn result_end(
-    name: Word,
-    params: Items<Param>,
-    found: Option<Weighed>,
-    ending: Ending,
-) -> DefTurn
+fn result_end(name: Word, params: Items<Param>, found: Option<Weighed>, ending: Ending) -> DefTurn
     ensures { result ≡ def_turn (result_end name params found ending) }
 {
     let Some(Weighed { ann, .. }) = found else {

@@ -25,12 +25,7 @@ use sqlite_items::Items;
 use std::alloc::{AllocError, Global};
 
 /// A word that begins a statement, a class or a function, or ends a block or the script.
-fn start_mark(
-    alloc: Global,
-    around: Around,
-    place: Place,
-    mark: Mark,
-) -> Result<Turn, AllocError>
+fn start_mark(alloc: Global, around: Around, place: Place, mark: Mark) -> Result<Turn, AllocError>
     ensures { IfOk result (λ n. n ≡ turn_of (start_mark around place mark)) }
 {
     match mark {
@@ -137,12 +132,7 @@ fn head_line(around: Around, head: Head, what: What) -> Turn
     }
 }
 
-fn head_block(
-    alloc: Global,
-    around: Around,
-    head: Head,
-    what: What,
-) -> Result<Turn, AllocError>
+fn head_block(alloc: Global, around: Around, head: Head, what: What) -> Result<Turn, AllocError>
     ensures { IfOk result (λ n. n ≡ turn_of (head_block around head what)) }
 {
     match what {
@@ -155,11 +145,7 @@ fn head_block(
 }
 
 /// Where a class that is read so far leads.
-fn class_followed(
-    alloc: Global,
-    items: Items<Item>,
-    stage: ClassStage,
-) -> Result<Turn, AllocError>
+fn class_followed(alloc: Global, items: Items<Item>, stage: ClassStage) -> Result<Turn, AllocError>
     ensures { IfOk result (λ n. n ≡ Turn.Go (class_stage_of items stage)) }
 {
     match stage {

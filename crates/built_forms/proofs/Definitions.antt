@@ -1,5 +1,5 @@
 -- Names that are classes.
-use Rattle.std.proofs.Common.{◌≡◌, inl, inr, ℕ, ◌+◌, List, [], ◌∷◌, ◌++◌, Bool, true, false, Some, None, flat_map, bytes_eq, refl, ap, subst, if◌then◌else◌}
+use Rattle.std.proofs.Common.{◌≡◌, inl, inr, ℕ, ◌+◌, List, [], ◌∷◌, Bool, true, false, Some, None, flat_map, bytes_eq, refl, ap, subst, if◌then◌else◌}
 use Rattle.std.specs.Prelude.{Contains}
 use Rattle.mono_list.proofs.Cases.{split, some_is, some_none, none_some}
 use Rattle.mono_syntax.specs.declared.leaf.TyAt.{TyAt}
@@ -16,33 +16,21 @@ use Rattle.name_scope.specs.declared.occurrence.Role.TheVariants as role
 use Rattle.name_scope.specs.Occurrences.{at, defined_by}
 use Rattle.name_scope.specs.Rules.{is_class, Stands}
 use Rattle.typing_rules.specs.Members.{Numbered, class_from}
-use Rattle.second_scripts.proofs.Standing.{nothing, head_stands, tail_stands, first_or}
-
--- classes and lines alone
-abbrev pub IsPlain : List Item → Type 0
-IsPlain [] = Unit {0}
-IsPlain (item.Class d ∷ is) = IsPlain is
-IsPlain (item.Stmt s ∷ is) = IsPlain is
-IsPlain (item.Def d ∷ is) = ⊥
-
-pub plain_append : (is js : List Item) → IsPlain is → IsPlain js → IsPlain (is ++ js)
-plain_append [] js p q = q
-plain_append (item.Class d ∷ is) js p q = plain_append is js p q
-plain_append (item.Stmt s ∷ is) js p q = plain_append is js p q
-plain_append (item.Def d ∷ is) js p q = absurd p
+use Rattle.built_forms.specs.BuiltTrees.{AreBuiltItems}
+use Rattle.built_forms.proofs.Standing.{nothing, head_stands, tail_stands, first_or}
 
 -- a name that is defined is a class
-pub defined_class : (is : List Item) → IsPlain is → (o : Occurrence) → Contains (flat_map defined_by is) o → class_named (classes_of is) o.text ≡ None → ⊥
-defined_class [] p o c n = nothing o ⊥ c
-defined_class (item.Stmt s ∷ is) p o c n = defined_class is p o c n
-defined_class (item.Def d ∷ is) p o c n = p
-defined_class (item.Class d ∷ is) p o c n =
+pub defined_class : (cs : List ClassDef) (is : List Item) → AreBuiltItems cs is → (o : Occurrence) → Contains (flat_map defined_by is) o → class_named (classes_of is) o.text ≡ None → ⊥
+defined_class cs [] p o c n = nothing o ⊥ c
+defined_class cs (item.Stmt s ∷ is) p o c n = defined_class cs is p.1 o c n
+defined_class cs (item.Def d ∷ is) p o c n = p.0
+defined_class cs (item.Class d ∷ is) p o c n =
     split (bytes_eq d.name.text o.text) (λ b. bytes_eq d.name.text o.text ≡ b → (if b then Some d else class_named (classes_of is) o.text) ≡ None → ⊥)
     (λ _ _ e. some_none ⊥ e)
     (λ _ f e.
     elim (first_or (at role.Class d.name) (flat_map defined_by is) o c) [
       | inl same ↦ true_false (bytes_eq d.name.text o.text) (named d.name.text o.text (ap (λ (k : Occurrence). k.text) same)) f
-      | inr k ↦ defined_class is p o k e
+      | inr k ↦ defined_class cs is p.1 o k e
     ])
     refl n
   where

@@ -1,7 +1,6 @@
 -- What stands in lists.
-use Rattle.std.proofs.Common.{◌≡◌, ◌⊎◌, inl, inr, zero, suc, List, [], ◌∷◌, ◌++◌, flat_map, refl, sym, ap, subst, arith}
+use Rattle.std.proofs.Common.{◌≡◌, ◌⊎◌, inl, inr, zero, suc, List, [], ◌∷◌, ◌++◌, refl, ap, arith}
 use Rattle.std.specs.Prelude.{Contains}
-use Rattle.std.proofs.lemmas.List.Elements.{Contains-append_left, Contains-append_right, Contains-append_cases}
 
 pub head_stands : {A : Type 0} (x : A) (xs : List A) → Contains (x ∷ xs) x
 head_stands x xs = (0, omega arith, refl)
@@ -19,27 +18,6 @@ first_or y xs x (suc i, b, e) = inr (i, omega (arith, b), e)
 
 pub only : {A : Type 0} (y x : A) → Contains (y ∷ []) x → y ≡ x
 only y x c = elim (first_or y [] x c) [ inl e ↦ e | inr d ↦ nothing x (y ≡ x) d ]
-
-pub in_flat : {A B : Type 0} (f : A → List B) (xs : List A) (x : A) (y : B) → Contains xs x → Contains (f x) y → Contains (flat_map f xs) y
-in_flat f [] x y c d = nothing x (Contains [] y) c
-in_flat {A} f (z ∷ xs) x y c d =
-    elim (first_or z xs x c) [
-      | inl e ↦ Contains-append_left (f z) (flat_map f xs) y (subst (λ (w : A). Contains (f w) y) (sym e) d)
-      | inr k ↦ Contains-append_right (f z) (flat_map f xs) y (in_flat f xs x y k d)
-    ]
-
-pub record From {A B : Type 0} (f : A → List B) (xs : List A) (y : B) : Type 0 where
-  pub one : A
-  pub stands : Contains xs one
-  pub has : Contains (f one) y
-
-pub from_flat : {A B : Type 0} (f : A → List B) (xs : List A) (y : B) → Contains (flat_map f xs) y → From f xs y
-from_flat f [] y c = nothing y (From f [] y) c
-from_flat f (x ∷ xs) y c =
-    elim (Contains-append_cases (f x) (flat_map f xs) y c) [
-      | inl d ↦ record { one = x; stands = head_stands x xs; has = d }
-      | inr d ↦ (let r = from_flat f xs y d in record { one = r.one; stands = tail_stands x xs r.one r.stands; has = r.has })
-    ]
 
 -- ---- what stands behind something
 

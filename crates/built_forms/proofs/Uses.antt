@@ -11,7 +11,7 @@ use Rattle.name_scope.specs.declared.occurrence.Role.{Role}
 use Rattle.name_scope.specs.declared.occurrence.Role.TheVariants as role
 use Rattle.name_scope.specs.Occurrences.{at, in_ann, in_anns, in_expr, in_exprs}
 use Rattle.name_scope.specs.Rules.{gives_name}
-use Rattle.second_scripts.proofs.Standing.{nothing, only}
+use Rattle.built_forms.proofs.Standing.{nothing, only}
 
 abbrev Gives : Occurrence → Type 0
 Gives o = gives_name o.role ≡ false
