@@ -6,6 +6,8 @@ pub mod Levels
 pub mod Sound
 pub mod Steps
 pub mod Reach
+pub mod TypeRuns
+pub mod ExprRuns
 pub mod Readings
 pub mod Runs
 pub mod Exact

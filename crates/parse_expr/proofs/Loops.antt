@@ -33,7 +33,9 @@ use Rattle.parse_expr.specs.TypeReading.{type_step, type_finish, type_tree}
 use Rattle.parse_expr.specs.Reading.{step, finish, next_of, cast_type, cast_comma}
 use Rattle.parse_expr.proofs.Goes.{then, none_some, some_is}
 use Rattle.parse_expr.proofs.Exact.{Reads, StopsAt, stretch, no_tree}
-use Rattle.parse_expr.proofs.Readings.{type_start, type_complete, type_finish_is, type_alive, types_at_zero, start, expr_goes, expr_sound, expr_alive, exprs_at_zero}
+use Rattle.parse_expr.proofs.TypeRuns.{type_start, types_at_zero, type_finish_is, type_complete}
+use Rattle.parse_expr.proofs.ExprRuns.{start, exprs_at_zero}
+use Rattle.parse_expr.proofs.Readings.{type_alive, expr_goes, expr_sound, expr_alive}
 
 -- the tokens read so far
 abbrev pub so_far : List ℕ → List Token → ℕ → ℕ → List Spelled
