@@ -1,3 +1,4 @@
 pub mod Fitness
+pub mod Fronts
 pub mod TreeLoading
 pub mod TextLoading

@@ -12,7 +12,8 @@ use Rattle.py_lexer.specs.Lexes as lexer
 use Rattle.py_lexer.specs.Lexes.{Lexes, FirstLexFault, RefusesBytes}
 use Rattle.parse_script.specs.Script.{DerivesScript, IsRefused}
 use Rattle.load_script.specs.TreePhases.{IsTreeProgram, RefusesTree, IsFault, Gives}
-use Rattle.load_script.specs.Phases.{IsTokensProgram, RefusesTokens, no_tree, in_tree, IsTextProgram, RefusesText, unlexed, in_tokens, IsProgramOf, IsFirstRefusal, long, undecoded, in_text}
+use Rattle.load_script.specs.Phases.{IsTokensProgram, RefusesTokens, unread, in_tree, IsTextProgram, RefusesText, unlexed, in_tokens, IsProgramOf, IsFirstRefusal, long, undecoded, in_text}
+use Rattle.load_script.proofs.Fronts.{read_whole, refused_once}
 use Rattle.load_script.proofs.TreeLoading.{no_program}
 
 -- ---- tokens
@@ -30,17 +31,17 @@ tree_fault text tokens s t (Err Memory) h = tt
 
 pub tree_refuses : (text : List ℕ) (tokens : List Token) (s : Script) → DerivesScript text tokens s → ((u : Script) → DerivesScript text tokens u → s ≡ u)
     → (r : Result CastScript LoadFault) → ((q : Refusal) → RefusesTree s q → Gives r q) → (q : Refusal) → RefusesTokens text tokens q → Gives r q
-tree_refuses text tokens s t one r h q (no_tree n) = absurd (n s t)
+tree_refuses text tokens s t one r h q (unread f) = absurd (read_whole text tokens s q t f)
 tree_refuses text tokens s t one r h q (in_tree {s = u} v f) = h q (subst (λ (x : Script). RefusesTree x q) (sym (one u v)) f)
 
 pub parse_fault : (text : List ℕ) (tokens : List Token) (f : LoadFault) → IsRefused text tokens f → IsFault (RefusesTokens text tokens) f
-parse_fault text tokens (Refused r) h = subst (λ (x : Refusal). RefusesTokens text tokens x) (sym h.0) (no_tree h.1)
+parse_fault text tokens (Refused r) h = unread h
 parse_fault text tokens Memory h = tt
 
 pub parse_refuses : (text : List ℕ) (tokens : List Token) (f : LoadFault) → IsRefused text tokens f → ((u : Script) → DerivesScript text tokens u → f ≡ Memory)
     → (q : Refusal) → RefusesTokens text tokens q → Gives (no_program f) q
-parse_refuses text tokens (Refused r) h complete q (no_tree n) = inl (ap Refused h.0)
-parse_refuses text tokens Memory h complete q (no_tree n) = inr refl
+parse_refuses text tokens (Refused r) h complete q (unread g) = inl (ap Refused (refused_once text tokens r q h g))
+parse_refuses text tokens Memory h complete q (unread g) = inr refl
 parse_refuses text tokens f h complete q (in_tree {s = u} v g) = inr (complete u v)
 
 -- ---- text

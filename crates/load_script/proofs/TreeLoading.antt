@@ -1,6 +1,6 @@
 -- What a tree without a fault of size comes to.
 use Rattle.std.proofs.Common.{◌≡◌, inl, inr, [], Option, Some, None, Result, Ok, Err, IfOk, IfErr, refl, sym, ◌∙◌, subst, ap}
-use Rattle.std.specs.Prelude.{IsOkUnless, MatchOption}
+use Rattle.std.specs.Prelude.{false, IsTrue, IsOkUnless, MatchOption}
 use Rattle.mono_list.proofs.Cases.{none_some}
 use Rattle.mono_syntax.specs.declared.cast.CastScript.{CastScript}
 use Rattle.mono_syntax.specs.declared.refusal.LoadFault.{LoadFault}
@@ -8,11 +8,12 @@ use Rattle.mono_syntax.specs.declared.refusal.LoadFault.TheVariants.{Refused, Me
 use Rattle.mono_syntax.specs.declared.refusal.Refusal.{Refusal}
 use Rattle.mono_syntax.specs.declared.script.Scoped.{Scoped}
 use Rattle.mono_syntax.specs.declared.tree.Script.{Script}
+use Rattle.mono_syntax.specs.StmtView.{block}
+use Rattle.built_forms.specs.BuiltTrees.{IsBuiltTree}
 use Rattle.class_types.specs.FirstFault.{IsFirst, IsFaultless}
 use Rattle.class_types.specs.SizeFaults.{SizeFault}
 use Rattle.name_scope.specs.ScopeFaults as scope
 use Rattle.name_scope.specs.ScopeFaults.{ScopeFault, IsRight, IsScopeRefusal}
-use Rattle.mono_syntax.specs.StmtView.{block}
 use Rattle.script_casts.specs.Refusals.{Refuses}
 use Rattle.script_rules.specs.BlockNames.{firsts, all_targets}
 use Rattle.script_rules.specs.Scoping.{IsScope, class_list, main_block}
@@ -23,6 +24,7 @@ use Rattle.typing_rules.specs.ClassLimits.{AreFit}
 use Rattle.typing_rules.specs.Members.{Names}
 use Rattle.typing_rules.specs.LineFaults.{BlockFault}
 use Rattle.typing_rules.proofs.ClassTypeLaws.{class_types}
+use Rattle.load_script.specs.TreePhases as tree
 use Rattle.load_script.specs.TreePhases.{IsTreeProgram, RefusesTree, too_large, misnamed, mistyped, HasBuiltForms, IsFault, Gives}
 use Rattle.load_script.proofs.Fitness.{fit}
 
@@ -44,36 +46,37 @@ has_types s d right sc c t stands is =
 pub own_scope : (s : Script) (d : Scoped) → IsScope s d → IsScope d.script d
 own_scope s d sc = subst (λ (x : Script). IsScope x d) (sym sc.script) sc
 
-pub sized_program : (s : Script) (d : Scoped) → IsRight s → IsScope s d → (r : Result CastScript LoadFault) → IfOk r (HasCasts d) → IfOk r (IsTreeProgram s)
-sized_program s d right sc (Ok p) h = record { right = right; scoped = d; scope = sc; casts = h }
-sized_program s d right sc (Err f) h = tt
+pub sized_program : (s : Script) (d : Scoped) → IsBuiltTree s → IsRight s → IsScope s d → (r : Result CastScript LoadFault) → IfOk r (HasCasts d) → IfOk r (IsTreeProgram s)
+sized_program s d forms right sc (Ok p) h = record { forms = forms; right = right; scoped = d; scope = sc; casts = h }
+sized_program s d forms right sc (Err f) h = tt
 
-pub sized_fault : (s : Script) (d : Scoped) → HasBuiltForms s → IsRight s → IsScope s d → (r : Result CastScript LoadFault) → IfErr r (casts.IsFault d) → IfErr r (IsFault (RefusesTree s))
-sized_fault s d built right sc (Ok p) h = tt
-sized_fault s d built right sc (Err (Refused r)) (unbuilt names main n) = absurd (n (subst (λ (x : Script). AreBuilt names x.items) (sym sc.script) (built d names right sc main)))
-sized_fault s d built right sc (Err (Refused r)) (casts.mistyped names types q main b f) =
-    mistyped right sc main (subst (λ (x : Script). BlockFault types names (block (main_block x)) q) sc.script f)
-sized_fault s d built right sc (Err Memory) h = tt
+pub sized_fault : (s : Script) (d : Scoped) → IsBuiltTree s → HasBuiltForms s → IsRight s → IsScope s d → (r : Result CastScript LoadFault) → IfErr r (casts.IsFault d) → IfErr r (IsFault (RefusesTree s))
+sized_fault s d forms built right sc (Ok p) h = tt
+sized_fault s d forms built right sc (Err (Refused r)) (unbuilt names main n) = absurd (n (subst (λ (x : Script). AreBuilt names x.items) (sym sc.script) (built d names right sc main)))
+sized_fault s d forms built right sc (Err (Refused r)) (casts.mistyped names types q main b f) =
+    mistyped forms right sc main (subst (λ (x : Script). BlockFault types names (block (main_block x)) q) sc.script f)
+sized_fault s d forms built right sc (Err Memory) h = tt
 
 gives : (r : Result CastScript LoadFault) (q : Refusal) → Refuses r q → Gives r q
 gives (Ok p) q h = h
 gives (Err f) q h = h
 
-pub sized_refuses : (s : Script) (d : Scoped) → HasBuiltForms s → IsRight s → IsScope s d → (r : Result CastScript LoadFault) → ((q : Refusal) → IsRefusal d q → Refuses r q)
+pub sized_refuses : (s : Script) (d : Scoped) → IsBuiltTree s → HasBuiltForms s → IsRight s → IsScope s d → (r : Result CastScript LoadFault) → ((q : Refusal) → IsRefusal d q → Refuses r q)
     → (q : Refusal) → RefusesTree s q → Gives r q
-sized_refuses s d built right sc r h q (too_large f) = absurd (right.sizes _ _ f.stands)
-sized_refuses s d built right sc r h q (misnamed z f) = absurd (right.names _ _ f.stands)
-sized_refuses s d built right sc r h q (mistyped {d = e} {names = names} {types = types} k se main f) =
+sized_refuses s d forms built right sc r h q (tree.unbuilt n) = absurd (n forms)
+sized_refuses s d forms built right sc r h q (too_large f) = absurd (right.sizes _ _ f.stands)
+sized_refuses s d forms built right sc r h q (misnamed b z f) = absurd (right.names _ _ f.stands)
+sized_refuses s d forms built right sc r h q (mistyped {d = e} {names = names} {types = types} b k se main f) =
     let here = names_move e d (se.script ∙ sym sc.script) names main in
-    let forms = subst (λ (x : Script). AreBuilt names x.items) (sym sc.script) (built d names right sc here) in
-    gives r q (h q (casts.mistyped names types q here forms (subst (λ (x : Script). BlockFault types names (block (main_block x)) q) (sym sc.script) f)))
+    let here_built = subst (λ (x : Script). AreBuilt names x.items) (sym sc.script) (built d names right sc here) in
+    gives r q (h q (casts.mistyped names types q here here_built (subst (λ (x : Script). BlockFault types names (block (main_block x)) q) (sym sc.script) f)))
 
 -- ---- where names are wrong
 
-pub named_fault : (s : Script) → IsFaultless (SizeFault s) → (f : LoadFault) → scope.IsFault s f → IsFault (RefusesTree s) f
-named_fault s sizes (Refused r) (scope.misnamed f) = misnamed sizes f
-named_fault s sizes (Refused r) (scope.oversized z f) = absurd (sizes _ _ f.stands)
-named_fault s sizes Memory h = tt
+pub named_fault : (s : Script) → IsBuiltTree s → IsFaultless (SizeFault s) → (f : LoadFault) → scope.IsFault s f → IsFault (RefusesTree s) f
+named_fault s forms sizes (Refused r) (scope.misnamed f) = misnamed forms sizes f
+named_fault s forms sizes (Refused r) (scope.oversized z f) = absurd (sizes _ _ f.stands)
+named_fault s forms sizes Memory h = tt
 
 abbrev no_scope : LoadFault → Result Scoped LoadFault
 no_scope f = Err f
@@ -81,11 +84,12 @@ no_scope f = Err f
 abbrev pub no_program : LoadFault → Result CastScript LoadFault
 no_program f = Err f
 
-pub named_refuses : (s : Script) → IsFaultless (SizeFault s) → (f : LoadFault) → (IsRight s → IsOkUnless (no_scope f) Memory)
+pub named_refuses : (s : Script) → IsBuiltTree s → IsFaultless (SizeFault s) → (f : LoadFault) → (IsRight s → IsOkUnless (no_scope f) Memory)
     → ((q : Refusal) → IsScopeRefusal s q → scope.Refuses (no_scope f) q) → (q : Refusal) → RefusesTree s q → Gives (no_program f) q
-named_refuses s sizes f accepts refuses q (too_large g) = absurd (sizes _ _ g.stands)
-named_refuses s sizes f accepts refuses q (misnamed z g) = refuses q (scope.misnamed g)
-named_refuses s sizes f accepts refuses q (mistyped k se main g) = inr (accepts k)
+named_refuses s forms sizes f accepts refuses q (tree.unbuilt n) = absurd (n forms)
+named_refuses s forms sizes f accepts refuses q (too_large g) = absurd (sizes _ _ g.stands)
+named_refuses s forms sizes f accepts refuses q (misnamed b z g) = refuses q (scope.misnamed g)
+named_refuses s forms sizes f accepts refuses q (mistyped b k se main g) = inr (accepts k)
 
 -- ---- where something is too large
 
@@ -94,6 +98,18 @@ large_found s None r e h = none_some (RefusesTree s not_built) e
 large_found s (Some q) r e h = too_large h
 
 pub large_refuses : (s : Script) (r : Refusal) → IsFirst (SizeFault s) r → (q : Refusal) → RefusesTree s q → Gives (no_program (Refused not_built)) q
+large_refuses s r f q (tree.unbuilt n) = inl refl
 large_refuses s r f q (too_large g) = inl refl
-large_refuses s r f q (misnamed z g) = absurd (z _ _ f.stands)
-large_refuses s r f q (mistyped k se main g) = absurd (k.sizes _ _ f.stands)
+large_refuses s r f q (misnamed b z g) = absurd (z _ _ f.stands)
+large_refuses s r f q (mistyped b k se main g) = absurd (k.sizes _ _ f.stands)
+
+-- ---- where a form isn't built
+
+pub unbuilt_refuses : (s : Script) → (IsBuiltTree s → ⊥) → (q : Refusal) → RefusesTree s q → Gives (no_program (Refused not_built)) q
+unbuilt_refuses s n q (tree.unbuilt m) = inl refl
+unbuilt_refuses s n q (too_large g) = inl refl
+unbuilt_refuses s n q (misnamed b z g) = absurd (n b)
+unbuilt_refuses s n q (mistyped b k se main g) = absurd (n b)
+
+pub never : IsTrue false → ⊥
+never e = cc

@@ -1,5 +1,5 @@
 -- From the bytes of a script to the script with its casts, phase by phase: bytes are decoded, text is cut into tokens, and
--- tokens have a tree, which comes to its casts as TreePhases says. The first phase that refuses ends it.
+-- tokens are read as a tree, which comes to its casts as TreePhases says. The first phase that refuses ends it.
 use Rattle.std.specs.Prelude.{ℕ, ◌<◌, ◌≤◌, List, length, chars}
 use Rattle.std.specs.Str.{IsUtf8}
 use Rattle.mono_syntax.specs.declared.cast.CastScript.{CastScript}
@@ -8,8 +8,7 @@ use Rattle.mono_syntax.specs.declared.refusal.Refusal.{Refusal}
 use Rattle.mono_syntax.specs.declared.tree.Script.{Script}
 use Rattle.py_lexer.specs.declared.token.Token.{Token}
 use Rattle.py_lexer.specs.Lexes.{Lexes, FirstLexFault, RefusesBytes}
-use Rattle.parse_script.specs.Script.{DerivesScript}
-use Rattle.typing_rules.specs.BuiltForms.{not_built}
+use Rattle.parse_script.specs.Script.{DerivesScript, IsRefusedAt}
 use Rattle.load_script.specs.TreePhases.{IsTreeProgram, RefusesTree}
 
 -- ---- what tokens come to
@@ -20,7 +19,8 @@ pub record IsTokensProgram (text : List ℕ) (tokens : List Token) (p : CastScri
   pub program : IsTreeProgram script p
 
 pub data RefusesTokens (text : List ℕ) (tokens : List Token) : Refusal → Type 0 where
-  no_tree : ((s : Script) → DerivesScript text tokens s → ⊥) → RefusesTokens text tokens not_built
+  -- the first token that no script has there
+  unread : {r : Refusal} → IsRefusedAt text tokens r → RefusesTokens text tokens r
   in_tree : {r : Refusal} {s : Script} → DerivesScript text tokens s → RefusesTree s r → RefusesTokens text tokens r
 
 -- ---- what a text comes to

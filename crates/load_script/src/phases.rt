@@ -5,9 +5,12 @@ ghost use Rattle.mono_tree.specs.WellTyped.{IsWellTypedProgram};
 ghost use Rattle.py_lexer.specs.Lexes.{Lexes};
 ghost use Rattle.class_types.specs.FirstFault.{IsFaultless};
 ghost use Rattle.class_types.specs.SizeFaults.{SizeFault};
+ghost use Rattle.built_forms.specs.BuiltTrees.{IsBuiltTree};
+ghost use Rattle.parse_script.specs.Shapes.{IsShaped};
 ghost use Rattle.load_script.specs.TreePhases.{IsTreeProgram, RefusesTree, HasBuiltForms, IsFault, Gives};
 ghost use Rattle.load_script.specs.Phases.{IsTokensProgram, RefusesTokens, IsTextProgram, RefusesText, IsProgramOf, IsFirstRefusal};
 
+use built_forms::is_built;
 use class_types::size_refusal;
 use mono_syntax::{CastScript, LoadFault, Place, Reason, Refusal, Script};
 use name_scope::scope;
@@ -16,14 +19,15 @@ use py_lexer::{Token, decode, lex};
 use script_casts::with_casts;
 use std::alloc::Global;
 
-/// The refusal of what isn't built yet.
+/// The refusal of a tree that isn't built yet.
 const NOT_BUILT: Refusal = Refusal {
     place: Place { line: 1, column: 1 },
     reason: Reason::NotBuilt,
 };
 
-/// A tree without a fault of size: its names get their types, and then it gets its casts.
+/// A built tree without a fault of size: its names get their types, and then it gets its casts.
 fn load_sized(alloc: Global, script: &Script) -> Result<CastScript, LoadFault>
+    requires forms { IsBuiltTree script.now }
     requires sizes { IsFaultless (SizeFault script.now) }
     requires built { HasBuiltForms script.now }
     ensures accepted { IfOk result (IsTreeProgram script.now) }
@@ -37,8 +41,10 @@ fn load_sized(alloc: Global, script: &Script) -> Result<CastScript, LoadFault>
     }
 }
 
-fn load_tree(alloc: Global, script: &Script) -> Result<CastScript, LoadFault>
-    requires { HasBuiltForms script.now }
+/// A built tree: its sizes are looked at first.
+fn load_built(alloc: Global, script: &Script) -> Result<CastScript, LoadFault>
+    requires forms { IsBuiltTree script.now }
+    requires built { HasBuiltForms script.now }
     ensures accepted { IfOk result (IsTreeProgram script.now) }
     ensures refused { IfErr result (IsFault (RefusesTree script.now)) }
     ensures refuses { (r : Refusal) → RefusesTree script.now r → Gives result r }
@@ -48,6 +54,20 @@ fn load_tree(alloc: Global, script: &Script) -> Result<CastScript, LoadFault>
         Ok(None) => load_sized(alloc, script),
         Ok(Some(_)) => Err(LoadFault::Refused(NOT_BUILT)),
         Err(_) => Err(LoadFault::Memory),
+    }
+}
+
+fn load_tree(alloc: Global, script: &Script) -> Result<CastScript, LoadFault>
+    requires { IsShaped script.now }
+    ensures accepted { IfOk result (IsTreeProgram script.now) }
+    ensures refused { IfErr result (IsFault (RefusesTree script.now)) }
+    ensures refuses { (r : Refusal) → RefusesTree script.now r → Gives result r }
+    ensures typed { IfOk result IsWellTypedProgram }
+{
+    if is_built(script) {
+        load_built(alloc, script)
+    } else {
+        Err(LoadFault::Refused(NOT_BUILT))
     }
 }
 
@@ -78,9 +98,9 @@ fn load_text(alloc: Global, text: &str) -> Result<CastScript, LoadFault>
     }
 }
 
-/// The script of some bytes with its casts, or the first refusal: the bytes are decoded, cut into tokens, read as a tree,
-/// and then its sizes, its names and its types are looked at. Bytes without a second script, and a fault of size in one,
-/// are refused as not built yet.
+/// The script of some bytes with its casts, or the first refusal: the bytes are decoded, cut into tokens and read as a tree,
+/// and then its forms, its sizes, its names and its types are looked at. A form that the program doesn't run so far, and a
+/// fault of size, are refused as not built yet.
 pub fn load(alloc: Global, bytes: &[u8]) -> Result<CastScript, LoadFault>
     requires { length bytes.now ≤ 1048576 }
     ensures accepted { IfOk result (IsProgramOf bytes.now) }

@@ -1,94 +1,76 @@
--- Steps of the loops: one more attribute, part or argument.
-use Rattle.std.proofs.Common.{ℕ, zero, suc, ◌+◌, ◌-◌, ◌<◌, ◌≡◌, true, false, max, List, [], ◌∷◌, ◌++◌, drop, Option, Some, None, Result, Ok, Err, IfOk, IfSome, codes, arith, refl, ap, ◌∙◌, sym}
-use Rattle.std.proofs.lemmas.Bool.{lt-ltb}
-use Rattle.std.proofs.lemmas.List.{drop-drop}
-use Rattle.py_lexer.specs.declared.token.Token.{Token}
-use Rattle.parse_script.specs.declared.parsed.Parsed.{Parsed}
-use Rattle.parse_script.specs.declared.parsed.Args.{Args}
-use Rattle.mono_syntax.specs.declared.tree.Item.{Item}
-use Rattle.parse_script.specs.declared.front.Front.{Front}
-use Rattle.parse_script.specs.Spelling.{name_of, is_sign, is_end}
-use Rattle.parse_script.specs.Lines.{item_at, items_more}
-use Rattle.parse_script.specs.Grammar.{word}
-use Rattle.parse_script.specs.Reading.{begins_sign, attribute, joined, more_args, part_more, sum_more, sums_more, sum_at, part_at, read_sum, read_part}
+-- Runs inside runs, and small facts about options and lists.
+use Rattle.std.proofs.Common.{◌≡◌, ℕ, ◌≤◌, List, [], ◌∷◌, ◌++◌, Option, Some, None, refl, sym, ◌∙◌, ap, subst}
+use Rattle.mono_syntax.specs.declared.leaf.Place.{Place}
+use Rattle.mono_syntax.specs.Ann.{Ann}
+use Rattle.parse_expr.specs.declared.machine.TypeFrame.{TypeFrame}
+use Rattle.parse_expr.specs.declared.machine.TypeMode.{TypeMode}
+use Rattle.parse_expr.specs.declared.machine.TypeMode.TheVariants as type_mode
+use Rattle.parse_expr.specs.declared.machine.Weighed.{Weighed}
+use Rattle.parse_expr.specs.Goes.{Goes, stay, go}
+use Rattle.parse_expr.specs.Reading.{step}
+use Rattle.parse_expr.specs.TypeReading.{type_step, type_finish, type_whole}
+use Rattle.parse_expr.specs.declared.machine.Mode.{Mode}
+use Rattle.parse_expr.specs.declared.machine.Mode.TheVariants as mode
+use Rattle.parse_expr.proofs.Goes.{then}
+use Rattle.parse_script.specs.Statements.{heaviest}
+use Rattle.spelled_tokens.specs.declared.token.Spelled.{Spelled}
 
-pub part_stop : (text : List ℕ) (room : ℕ) (a : Parsed) (ts : List Token) → begins_sign text (codes ".") ts ≡ false → part_more text room a ts ≡ Some a
-part_stop text room a [] e = refl
-part_stop text room a (d ∷ []) e = rw e refl
-part_stop text room a (d ∷ t ∷ ts) e = rw e refl
+-- a place, where any will do
+abbrev pub here : Place
+here = record { line = 1; column = 1 }
 
-pub part_ends : (text : List ℕ) (room : ℕ) (a : Parsed) (ts : List Token) (d : Token) → ts ≡ d ∷ [] → is_sign text (codes ".") d ≡ true → part_more text room a ts ≡ None
-part_ends text room a ts d e s = rw (e, s) refl
+none_is : {A : Type 0} {x : A} → None ≡ Some x → ⊥
+none_is e = cc
 
-pub part_step : (text : List ℕ) (room : ℕ) (a new : Parsed) (ts behind rest : List Token) (d t : Token) (w : List ℕ) → ts ≡ d ∷ behind → behind ≡ t ∷ rest
-    → is_sign text (codes ".") d ≡ true → name_of text t ≡ Some w → a.weight < room → new ≡ attribute a (word w t.place) → part_more text room new rest ≡ part_more text room a ts
-part_step text room a new ts behind rest d t w e f s n l g = rw (e, f, s, n, lt-ltb a.weight room l, g) refl
+pub none_some : {A : Type 0} {x : A} (B : Type 0) → None ≡ Some x → B
+none_some B e = absurd (none_is e)
 
--- what stands behind the first of the tokens at n, and k more
-pub drop_behind : {A : Type 0} (n k : ℕ) (ts rest : List A) (t : A) → drop n ts ≡ t ∷ rest → drop (n + 1 + k) ts ≡ drop k rest
-drop_behind n k ts rest t e = sym (drop-drop k (n + 1) ts) ∙ ap (drop k) (sym (drop-drop 1 n ts) ∙ ap (drop 1) e)
+pub some_is : {A : Type 0} {x y : A} → Some x ≡ Some y → x ≡ y
+some_is e = cc
 
--- what is passed over is gone
-pub sum_past : (text : List ℕ) (part : List Token → Option Parsed) (room k : ℕ) (a : Parsed) (ts : List Token) → sum_more text part room k a ts ≡ sum_more text part room 0 a (drop k ts)
-sum_past text part room zero a ts = refl
-sum_past text part room (suc k) a [] = refl
-sum_past text part room (suc k) a (t ∷ ts) = sum_past text part room k a ts
+pub nil_cons : {A : Type 0} {x : A} {xs : List A} (B : Type 0) → ◌≡◌ {A = List A} [] (x ∷ xs) → B
+nil_cons B e = absurd cc
 
-pub sums_past : (text : List ℕ) (sum : List Token → Option Parsed) (k : ℕ) (a : Args) (ts : List Token) → sums_more text sum k a ts ≡ sums_more text sum 0 a (drop k ts)
-sums_past text sum zero a ts = refl
-sums_past text sum (suc k) a [] = refl
-sums_past text sum (suc k) a (t ∷ ts) = sums_past text sum k a ts
+pub head_is : {A : Type 0} {x y : A} {xs ys : List A} → ◌≡◌ {A = List A} (x ∷ xs) (y ∷ ys) → x ≡ y
+head_is e = cc
 
-pub sum_on : (text : List ℕ) (part : List Token → Option Parsed) (room : ℕ) (a b : Parsed) (t : Token) (rest : List Token) → is_sign text (codes "+") t ≡ true → part rest ≡ Some b
-    → max a.weight b.weight < room → sum_more text part room 0 a (t ∷ rest) ≡ sum_more text part room 0 (joined t.place a b) (drop b.len rest)
-sum_on text part room a b t rest s p l = rw (s, p, lt-ltb (max a.weight b.weight) room l) (sum_past text part room b.len (joined t.place a b) rest)
+pub tail_is : {A : Type 0} {x y : A} {xs ys : List A} → ◌≡◌ {A = List A} (x ∷ xs) (y ∷ ys) → xs ≡ ys
+tail_is e = cc
 
-pub sum_step : (text : List ℕ) (part : List Token → Option Parsed) (room : ℕ) (a b new : Parsed) (t : Token) (ts rest : List Token) → drop a.len ts ≡ t ∷ rest
-    → is_sign text (codes "+") t ≡ true → part rest ≡ Some b → max a.weight b.weight < room → new ≡ joined t.place a b
-    → sum_more text part room 0 new (drop new.len ts) ≡ sum_more text part room 0 a (drop a.len ts)
-sum_step text part room a b new t ts rest e s p l n =
-    rw n (ap (sum_more text part room 0 (joined t.place a b)) (drop_behind a.len b.len ts rest t e) ∙ sym (sum_on text part room a b t rest s p l) ∙ ap (sum_more text part room 0 a) (sym e))
+-- an option is none, or holds something
+pub split_option : {A : Type 0} (o : Option A) (P : Type 0) → (o ≡ None → P) → ((x : A) → o ≡ Some x → P) → P
+split_option None P f g = f refl
+split_option (Some x) P f g = g x refl
 
-pub sums_on : (text : List ℕ) (sum : List Token → Option Parsed) (a : Args) (b : Parsed) (t : Token) (rest : List Token) → is_sign text (codes ",") t ≡ true → sum rest ≡ Some b
-    → sums_more text sum 0 a (t ∷ rest) ≡ sums_more text sum 0 (more_args a b) (drop b.len rest)
-sums_on text sum a b t rest s p = rw (s, p) (sums_past text sum b.len (more_args a b) rest)
+pub type_finished : (m : TypeMode) (a : Weighed) → type_finish m ≡ Some a → m ≡ type_mode.Have [] a.ann a.weight
+type_finished (type_mode.Want k) a e = none_some _ e
+type_finished (type_mode.Outer p k) a e = none_some _ e
+type_finished (type_mode.Inner p k) a e = none_some _ e
+type_finished (type_mode.First p k) a e = none_some _ e
+type_finished (type_mode.Between p xs v k) a e = none_some _ e
+type_finished (type_mode.Have [] t w) a e = ap (λ (x : Weighed). type_mode.Have [] x.ann x.weight) (some_is e)
+type_finished (type_mode.Have (f ∷ k) t w) a e = none_some _ e
 
-pub sums_step : (text : List ℕ) (sum : List Token → Option Parsed) (a new : Args) (b : Parsed) (t : Token) (ts rest : List Token) → drop a.len ts ≡ t ∷ rest
-    → is_sign text (codes ",") t ≡ true → sum rest ≡ Some b → new ≡ more_args a b
-    → sums_more text sum 0 new (drop new.len ts) ≡ sums_more text sum 0 a (drop a.len ts)
-sums_step text sum a new b t ts rest e s p n =
-    rw n (ap (sums_more text sum 0 (more_args a b)) (drop_behind a.len b.len ts rest t e) ∙ sym (sums_on text sum a b t rest s p) ∙ ap (sums_more text sum 0 a) (sym e))
+-- a run of one step
+pub one : {S T : Type 0} (step : S → T → Option S) (s n : S) (t : T) → step s t ≡ Some n → Goes step s (t ∷ []) n
+one step s n t e = go s n n t [] e (stay n)
 
--- with no room there is no sum
-pub no_room : (text : List ℕ) (classes : List (List ℕ)) (room : ℕ) (ts : List Token) → room ≡ 0 → read_sum text classes room ts ≡ None
-unfolding read_sum
-no_room text classes room ts e = rw e refl
+-- ---- states of the readers of types and expressions that are reached
 
-pub some_room : (text : List ℕ) (classes : List (List ℕ)) (room : ℕ) (ts : List Token) → 0 < room → read_sum text classes room ts ≡ sum_at text (read_part text classes room) room ts
-unfolding read_sum
-some_room text classes zero ts l = absurd (omega arith)
-some_room text classes (suc r) ts l =
-    let e : r ≡ suc r - 1 = omega arith in
-    ap (λ k. sum_at text (part_at text classes (read_sum text classes k) (suc r)) (suc r) ts) e
+abbrev pub ReachedType : TypeMode → Type 0
+ReachedType m = (ts : List Spelled) × Goes (type_step heaviest) (type_mode.Want []) ts m
 
--- what holds of an answer, said more weakly
-pub ok_some : {A E : Type 0} (P Q : A → Type 0) (r : Result (Option A) E) → ((x : A) → P x → Q x) → IfOk r (λ o. IfSome o P) → IfOk r (λ o. IfSome o Q)
-ok_some P Q (Ok None) f h = h
-ok_some P Q (Ok (Some x)) f h = f x h
-ok_some P Q (Err e) f h = h
+pub reached_start : ReachedType (type_mode.Want [])
+reached_start = ([], stay (type_mode.Want []))
 
-pub items_past : (text : List ℕ) (classes : List (List ℕ)) (k : ℕ) (items : List Item) (ts : List Token) → items_more text classes k items ts ≡ items_more text classes 0 items (drop k ts)
-items_past text classes zero items ts = refl
-items_past text classes (suc k) items [] = refl
-items_past text classes (suc k) items (t ∷ ts) = items_past text classes k items ts
+pub reached_more : (m n : TypeMode) (t : Spelled) → ReachedType m → type_step heaviest m t ≡ Some n → ReachedType n
+reached_more m n t r e = (r.0 ++ (t ∷ []), then (type_step heaviest) (type_mode.Want []) m n r.0 (t ∷ []) r.1 (one (type_step heaviest) m n t e))
 
-pub items_on : (text : List ℕ) (classes : List (List ℕ)) (items : List Item) (n : ℕ) (t : Token) (ts : List Token) → 0 < n
-    → items_more text classes (n - 1) items ts ≡ items_more text classes 0 items (drop n (t ∷ ts))
-items_on text classes items zero t ts l = absurd (omega arith)
-items_on text classes items (suc k) t ts l = let e : suc k - 1 ≡ k = omega arith in rw e (items_past text classes k items ts)
+abbrev pub Reached : Mode → Type 0
+Reached m = (ts : List Spelled) × Goes (step heaviest) (mode.Want []) ts m
 
-pub items_step : (text : List ℕ) (classes : List (List ℕ)) (items new : List Item) (i : Front) (t : Token) (ts behind rest : List Token) → ts ≡ t ∷ behind → is_end t.what ≡ false
-    → item_at text classes ts ≡ Some i → 0 < i.len → new ≡ items ++ i.item ∷ [] → rest ≡ drop i.len ts → items_more text classes 0 new rest ≡ items_more text classes 0 items ts
-items_step text classes items new i t ts behind rest e f o l n r =
-    let o' : item_at text classes (t ∷ behind) ≡ Some i = ap (item_at text classes) (sym e) ∙ o in
-    rw (n, r, e, f, o') (sym (items_on text classes (items ++ i.item ∷ []) i.len t behind l))
+pub begins : Reached (mode.Want [])
+begins = ([], stay (mode.Want []))
+
+pub goes_on : (m n : Mode) (t : Spelled) → Reached m → step heaviest m t ≡ Some n → Reached n
+goes_on m n t r e = (r.0 ++ (t ∷ []), then (step heaviest) (mode.Want []) m n r.0 (t ∷ []) r.1 (one (step heaviest) m n t e))

@@ -1,6 +1,8 @@
-pub mod Spelling
-pub mod Grammar
+pub mod Statements
+pub mod Definitions
 pub mod Script
+pub mod Endings
+pub mod Shapes
+pub mod ClassReading
+pub mod DefReading
 pub mod Reading
-pub mod Lines
-pub mod Trees

@@ -1,196 +1,404 @@
--- Reading expressions, as functions that the code computes. The grammar is in Grammar; the laws in proofs/ say that both are one. What is read stands at the
--- front of the tokens.
-use Rattle.std.specs.Prelude.{◌≡◌, ℕ, zero, suc, ◌+◌, ◌-◌, max, Bool, true, false, ◌&&◌, List, [], ◌∷◌, ◌++◌, drop, Option, Some, None, option_and_then, option_map, nat_lt, if◌then◌else◌, bytes_eq, codes, chars}
-use Rattle.std.specs.List.{list_any}
-use Rattle.std.specs.Str.{encode_utf8_all}
+-- Reading a script one token at a time: what the code computes. The grammar is in Statements, Definitions and Script.
+use Rattle.std.specs.Prelude.{ℕ, suc, ◌+◌, Bool, true, false, List, [], ◌∷◌, ◌++◌, length, Option, Some, None, nat_lt}
 use Rattle.mono_syntax.specs.declared.leaf.Place.{Place}
 use Rattle.mono_syntax.specs.declared.leaf.Word.{Word}
-use Rattle.mono_syntax.specs.declared.leaf.Op.TheVariants.{Add}
-use Rattle.mono_syntax.specs.Ann as ann
+use Rattle.mono_syntax.specs.declared.tree.Branch.{Branch}
+use Rattle.mono_syntax.specs.declared.tree.FuncDef.{FuncDef}
+use Rattle.mono_syntax.specs.declared.tree.Item.{Item}
+use Rattle.mono_syntax.specs.declared.tree.Item.TheVariants as item
+use Rattle.mono_syntax.specs.Ann.{Ann}
 use Rattle.mono_syntax.specs.Expr as expr
+use Rattle.mono_syntax.specs.Expr.{Expr}
 use Rattle.mono_syntax.specs.ExprView.{exprs}
-use Rattle.py_chars.specs.Spellings.{number_of, bad_escape, string_of}
-use Rattle.py_lexer.specs.declared.token.Token.{Token}
-use Rattle.py_lexer.specs.declared.token.TokenKind.{TokenKind}
-use Rattle.py_lexer.specs.declared.token.TokenKind.TheVariants.{Name, Reserved, Number, Str}
-use Rattle.parse_script.specs.declared.parsed.Parsed.{Parsed}
-use Rattle.parse_script.specs.declared.parsed.Args.{Args}
-use Rattle.parse_script.specs.Spelling.{spelling, inside, name_of, is_sign}
-use Rattle.parse_script.specs.Grammar.{word}
+use Rattle.mono_syntax.specs.Stmt as stmt
+use Rattle.mono_syntax.specs.Stmt.{Stmt}
+use Rattle.mono_syntax.specs.StmtView.{block, branches}
+use Rattle.spelled_tokens.specs.declared.token.Mark.{Mark}
+use Rattle.spelled_tokens.specs.declared.token.Mark.TheVariants as mark
+use Rattle.spelled_tokens.specs.declared.token.Spelled.{Spelled}
+use Rattle.spelled_tokens.specs.declared.token.What.{What}
+use Rattle.spelled_tokens.specs.declared.token.What.TheVariants as what
+use Rattle.parse_expr.specs.declared.machine.Frame.{Frame}
+use Rattle.parse_expr.specs.declared.machine.Mode.{Mode}
+use Rattle.parse_expr.specs.declared.machine.Mode.TheVariants as mode
+use Rattle.parse_expr.specs.declared.machine.TypeMode.{TypeMode}
+use Rattle.parse_expr.specs.declared.machine.TypeMode.TheVariants as type_mode
+use Rattle.parse_expr.specs.declared.machine.Weighed.{Weighed}
+use Rattle.parse_expr.specs.Reading.{step, finish, held, IsLightMode}
+use Rattle.parse_expr.specs.TypeReading.{type_step, type_finish, IsLightType}
+use Rattle.parse_expr.specs.Types.{word}
+use Rattle.parse_script.specs.declared.stage.Around.{Around}
+use Rattle.parse_script.specs.declared.stage.ClassStage.{ClassStage}
+use Rattle.parse_script.specs.declared.stage.ClassStage.TheVariants as class_stage
+use Rattle.parse_script.specs.declared.stage.DefHead.{DefHead}
+use Rattle.parse_script.specs.declared.stage.DefStage.{DefStage}
+use Rattle.parse_script.specs.declared.stage.DefStage.TheVariants as def_stage
+use Rattle.parse_script.specs.declared.stage.Ending.{Ending}
+use Rattle.parse_script.specs.declared.stage.Ending.TheVariants as ending
+use Rattle.parse_script.specs.declared.stage.Floor.{Floor}
+use Rattle.parse_script.specs.declared.stage.Floor.TheVariants as floor
+use Rattle.parse_script.specs.declared.stage.Head.{Head}
+use Rattle.parse_script.specs.declared.stage.Head.TheVariants as head
+use Rattle.parse_script.specs.declared.stage.Listed.{Listed}
+use Rattle.parse_script.specs.declared.stage.Listed.TheVariants as listed
+use Rattle.parse_script.specs.declared.stage.Opened.{Opened}
+use Rattle.parse_script.specs.declared.stage.Opened.TheVariants as opened
+use Rattle.parse_script.specs.declared.stage.Stage.{Stage}
+use Rattle.parse_script.specs.declared.stage.Stage.TheVariants as stage
+use Rattle.parse_script.specs.declared.stage.Turn.{Turn}
+use Rattle.parse_script.specs.declared.stage.Turn.TheVariants as turn
+use Rattle.parse_script.specs.declared.stage.Use.{Use}
+use Rattle.parse_script.specs.declared.stage.Use.TheVariants as for_
+use Rattle.parse_script.specs.ClassReading.{class_step, IsLightClass}
+use Rattle.parse_script.specs.DefReading.{def_step, IsLightDef}
+use Rattle.parse_script.specs.Endings.{ending_of}
+use Rattle.parse_script.specs.Statements.{heaviest, deepest, branch}
 
-abbrev pub parsed : expr.Expr → ℕ → ℕ → Parsed
-parsed e n k = record { expr = e; weight = n; len = k }
+-- ---- where statements stand
 
-abbrev pub args : List expr.Expr → ℕ → ℕ → Args
-args es n k = record { exprs = es; weight = n; len = k }
+abbrev pub around : Floor → List Opened → List Stmt → Around
+around f k done = record { floor = f; opened = k; done = done }
 
-abbrev pub leaf : Option expr.Expr → Option Parsed
-leaf None = None
-leaf (Some e) = Some (parsed e 1 1)
+-- the script's own block, behind these items
+abbrev pub top : List Item → Around
+top is = around (floor.Script is) [] []
 
-abbrev pub literal : Place → List ℕ → Option expr.Expr
-literal p w =
-    if bytes_eq w (codes "True") then Some (expr.truth p true)
-    else (if bytes_eq w (codes "False") then Some (expr.truth p false)
-    else (if bytes_eq w (codes "None") then Some (expr.nil p) else None))
+abbrev pub is_def : Floor → Bool
+is_def (floor.Script is) = false
+is_def (floor.Def is h) = true
 
-unfoldable pub type_form : List ℕ → Option ann.Form
-type_form w =
-    if bytes_eq w (codes "int") then Some ann.int
-    else (if bytes_eq w (codes "bool") then Some ann.bool
-    else (if bytes_eq w (codes "str") then Some ann.str
-    else (if bytes_eq w (codes "Dyn") then Some ann.dyn
-    else (if bytes_eq w (codes "None") then Some ann.nil else None))))
+abbrev pub floor_depth : Floor → ℕ
+floor_depth (floor.Script is) = 0
+floor_depth (floor.Def is h) = 1
 
--- the type that a token of this kind and spelling is
-abbrev pub form_when : TokenKind → Option (List ℕ) → Place → Option ann.Form
-form_when Name (Some w) p = Some (ann.class (word w p))
-form_when Reserved (Some w) p = type_form w
-form_when _ _ p = None
+-- how many blocks are round a statement
+abbrev pub depth : Around → ℕ
+depth a = length a.opened + floor_depth a.floor
 
-abbrev pub formed : Place → Option ann.Form → Option ann.Ann
-formed p None = None
-formed p (Some f) = Some (ann.ann p f)
+-- behind one more statement
+abbrev pub added_to : Floor → List Opened → List Stmt → Stmt → Around
+added_to f (o ∷ k) done s = around f (o ∷ k) (done ++ (s ∷ []))
+added_to (floor.Def is h) [] done s = around (floor.Def is h) [] (done ++ (s ∷ []))
+added_to (floor.Script is) [] done s = top (is ++ (item.Stmt s ∷ []))
 
--- the integer that a spelling is worth
-abbrev pub number_value : Place → Option (List ℕ) → Option expr.Expr
-number_value p None = None
-number_value p (Some w) = option_map (expr.number p) (number_of (chars w))
+abbrev pub added : Around → Stmt → Around
+added a s = added_to a.floor a.opened a.done s
 
--- the text that the inside of a string is worth
-abbrev pub text_value : Place → List ℕ → Option ℕ → Option expr.Expr
-text_value p w None = Some (expr.text p (encode_utf8_all (string_of (chars w))))
-text_value p w (Some n) = None
+abbrev pub added_stage : Around → Stmt → Stage
+added_stage a s = stage.Start (added a s)
 
-abbrev pub string_value : Place → Option (List ℕ) → Option expr.Expr
-string_value p None = None
-string_value p (Some w) = text_value p w (bad_escape (chars w))
+-- in a block that begins
+abbrev pub entered : Around → Head → Around
+entered a (head.While e) = around a.floor (opened.While a.done e ∷ a.opened) []
+entered a (head.Branch bs e) = around a.floor (opened.Branch a.done bs e ∷ a.opened) []
+entered a (head.Else bs) = around a.floor (opened.Else a.done bs ∷ a.opened) []
 
-abbrev pub is_class : List (List ℕ) → List ℕ → Bool
-is_class classes w = list_any (λ c. bytes_eq c w) classes
+abbrev pub func_def : DefHead → List Stmt → FuncDef
+func_def h ss = record { name = h.name; params = h.params; result = h.result; body = ss }
 
-abbrev pub more_args : Args → Parsed → Args
-more_args a e = args (a.exprs ++ e.expr ∷ []) (max a.weight e.weight) (a.len + 1 + e.len)
+-- behind a block that ends, with these statements
+abbrev pub left_block : Floor → List Opened → List Stmt → Option Stage
+left_block f (opened.While before e ∷ k) ss = Some (added_stage (around f k before) (stmt.loop e (block ss)))
+left_block f (opened.Branch before bs e ∷ k) ss = Some (stage.Behind (around f k before) (bs ++ (branch e ss ∷ [])))
+left_block f (opened.Else before bs ∷ k) ss = Some (added_stage (around f k before) (stmt.if_any (branches bs) (stmt.otherwise (block ss))))
+left_block (floor.Def is h) [] ss = Some (stage.Start (top (is ++ (item.Def (func_def h ss) ∷ []))))
+left_block (floor.Script is) [] ss = None
 
-abbrev pub attribute : Parsed → Word → Parsed
-attribute a x = parsed (expr.read a.expr x) (1 + a.weight) (a.len + 2)
+-- a block has at least one statement
+abbrev pub left : Floor → List Opened → List Stmt → Option Stage
+left f k [] = None
+left f k (s ∷ ss) = left_block f k (s ∷ ss)
 
-abbrev pub joined : Place → Parsed → Parsed → Parsed
-joined p a b = parsed (expr.binary Add p a.expr b.expr) (1 + max a.weight b.weight) (a.len + 1 + b.len)
+-- the items before, where the script's own block is the innermost one
+abbrev pub outermost : Floor → List Opened → Option (List Item)
+outermost (floor.Script is) [] = Some is
+outermost _ _ = None
 
-module _ (text : List ℕ) where
-  -- whether the first token is this operator
-  abbrev pub begins_sign : List ℕ → List Token → Bool
-  begins_sign s [] = false
-  begins_sign s (t ∷ ts) = is_sign text s t
+abbrev pub end_when : Option (List Item) → Option Stage
+end_when None = None
+end_when (Some is) = Some (stage.Ended is)
 
-  -- the first of the tokens is this operator, stands at this place, and has this rest behind it
-  pub record IsBehind (s : List ℕ) (tokens : List Token) (p : Place) (rest : List Token) : Type 0 where
-    pub first : Token
-    pub tokens_are : tokens ≡ first ∷ rest
-    pub is : is_sign text s first ≡ true
-    pub place_is : p ≡ first.place
+abbrev pub end_at : Floor → List Opened → Option Stage
+end_at f k = end_when (outermost f k)
 
-  abbrev pub type_of : Token → Option ann.Ann
-  type_of t = formed t.place (form_when t.what (spelling text t) t.place)
+abbrev pub class_when : Option (List Item) → Option Stage
+class_when None = None
+class_when (Some is) = Some (stage.Class is class_stage.Word)
 
-  -- the type in `( T ,`
-  abbrev pub cast_type : List Token → Option ann.Ann
-  cast_type [] = None
-  cast_type (o ∷ []) = None
-  cast_type (o ∷ t ∷ []) = None
-  cast_type (o ∷ t ∷ c ∷ ts) = if is_sign text (codes "(") o && is_sign text (codes ",") c then type_of t else None
+abbrev pub class_at : Floor → List Opened → Option Stage
+class_at f k = class_when (outermost f k)
 
-  -- a cast whose last part is read, where these tokens begin with that part
-  abbrev pub cast_closed : Place → ann.Ann → List Token → Parsed → Option Parsed
-  cast_closed p a ts e =
-      if begins_sign (codes ")") (drop e.len ts) then Some (parsed (expr.cast p a e.expr) (1 + max 1 e.weight) (e.len + 5)) else None
+abbrev pub def_when : Option (List Item) → Option Stage
+def_when None = None
+def_when (Some is) = Some (stage.Def is def_stage.Word)
 
-  abbrev pub call_closed : Word → Place → List Token → Args → Option Parsed
-  call_closed x p ts a =
-      if begins_sign (codes ")") (drop a.len ts) then Some (parsed (expr.call p (expr.local x) (exprs a.exprs)) (1 + max 1 a.weight) (a.len + 3)) else None
+abbrev pub def_at : Floor → List Opened → Option Stage
+def_at f k = def_when (outermost f k)
 
-  -- the attributes behind what is read already
-  abbrev pub part_more : ℕ → Parsed → List Token → Option Parsed
-  part_more room a [] = Some a
-  part_more room a (d ∷ []) = if is_sign text (codes ".") d then None else Some a
-  part_more room a (d ∷ t ∷ ts) =
-      if is_sign text (codes ".") d
-      then option_and_then (λ w. if nat_lt a.weight room then part_more room (attribute a (word w t.place)) ts else None) (name_of text t)
-      else Some a
+-- ---- what stands behind an expression
 
-  -- the sums behind commas, where the first k tokens are passed over
-  abbrev pub sums_more : (List Token → Option Parsed) → ℕ → Args → List Token → Option Args
-  sums_more sum k a [] = Some a
-  sums_more sum (suc k) a (t ∷ ts) = sums_more sum k a ts
-  sums_more sum zero a (t ∷ ts) =
-      if is_sign text (codes ",") t then option_and_then (λ e. sums_more sum e.len (more_args a e) ts) (sum ts) else Some a
+abbrev pub stage_if : Bool → Stage → Option Stage
+stage_if true s = Some s
+stage_if false s = None
 
-  abbrev pub sums_at : (List Token → Option Parsed) → List Token → Option Args
-  sums_at sum ts = option_and_then (λ e. sums_more sum 0 (args (e.expr ∷ []) e.weight e.len) (drop e.len ts)) (sum ts)
+-- an expression that was read for something, and this behind it
+abbrev pub is_newline : Ending → Bool
+is_newline ending.Newline = true
+is_newline _ = false
 
-  -- the arguments up to a `)`
-  abbrev pub args_at : (List Token → Option Parsed) → List Token → Option Args
-  args_at sum ts = if begins_sign (codes ")") ts then Some (args [] 0 0) else sums_at sum ts
+-- the statement that an expression is the last part of
+abbrev pub ended_line : Around → Stmt → Ending → Option Stage
+ended_line a x n = stage_if (is_newline n) (added_stage a x)
 
-  -- the parts behind a `+`, where the first k tokens are passed over
-  abbrev pub sum_more : (List Token → Option Parsed) → ℕ → ℕ → Parsed → List Token → Option Parsed
-  sum_more part room k a [] = Some a
-  sum_more part room (suc k) a (t ∷ ts) = sum_more part room k a ts
-  sum_more part room zero a (t ∷ ts) =
-      if is_sign text (codes "+") t
-      then option_and_then (λ b. if nat_lt (max a.weight b.weight) room then sum_more part room b.len (joined t.place a b) ts else None) (part ts)
-      else Some a
+-- the head that an expression is the condition of
+abbrev pub ended_head : Around → Head → Ending → Option Stage
+ended_head a h ending.Colon = Some (stage.HeadLine a h)
+ended_head a h _ = None
 
-  abbrev pub sum_at : (List Token → Option Parsed) → ℕ → List Token → Option Parsed
-  sum_at part room ts = option_and_then (λ a. sum_more part room 0 a (drop a.len ts)) (part ts)
+abbrev pub behind_used : Around → Use → Expr → Ending → Option Stage
+behind_used a (for_.Assign x t) e n = ended_line a (stmt.assign x t e) n
+behind_used a (for_.Write o x) e n = ended_line a (stmt.write o x e) n
+behind_used a (for_.Return p) e n = ended_line a (stmt.give p (Some e)) n
+behind_used a for_.While e n = ended_head a (head.While e) n
+behind_used a (for_.Branch bs) e n = ended_head a (head.Branch bs e) n
 
-  abbrev pub cast_sum : (List Token → Option Parsed) → Place → ann.Ann → List Token → Option Parsed
-  cast_sum sum p a ts = option_and_then (cast_closed p a ts) (sum ts)
+abbrev pub behind_found : Around → Use → Option Expr → Ending → Option Stage
+behind_found a u None n = None
+behind_found a u (Some e) n = behind_used a u e n
 
-  -- a cast, behind its word
-  abbrev pub cast_at : (List Token → Option Parsed) → Place → List Token → Option Parsed
-  cast_at sum p ts = option_and_then (λ a. cast_sum sum p a (drop 3 ts)) (cast_type ts)
+-- in an expression that is read for something: it goes on, or ends
+abbrev pub inside_next : Around → Use → Option Expr → Ending → Option Mode → Option Stage
+inside_next a u o n (Some m) = Some (stage.Inside a u m)
+inside_next a u o n None = behind_found a u o n
 
-  -- a call, behind its bracket
-  abbrev pub call_at : (List Token → Option Parsed) → Word → Place → List Token → Option Parsed
-  call_at sum x p ts = option_and_then (call_closed x p ts) (args_at sum ts)
+abbrev pub inside_step : Around → Use → Mode → Spelled → Option Stage
+inside_step a u m t = inside_next a u (finish m) (ending_of t.what) (step heaviest m t)
 
-  abbrev pub word_at : (List Token → Option Parsed) → Place → List ℕ → List Token → Option Parsed
-  word_at sum p w ts = if bytes_eq w (codes "cast") then cast_at sum p ts else leaf (literal p w)
+-- an expression for this begins
+abbrev pub inside : Around → Use → Stage
+inside a u = stage.Inside a u (mode.Want [])
 
-  -- a literal or a cast
-  abbrev pub reserved_at : (List Token → Option Parsed) → Token → List Token → Option Parsed
-  reserved_at sum t ts = option_and_then (λ w. word_at sum t.place w ts) (spelling text t)
+-- ---- arguments
 
-module _ (text : List ℕ) (classes : List (List ℕ)) where
-  -- a name, or a call of a class, behind the name
-  abbrev pub name_at : (List Token → Option Parsed) → ℕ → Word → List Token → Option Parsed
-  name_at sum room x [] = leaf (Some (expr.local x))
-  name_at sum room x (o ∷ ts) =
-      if is_sign text (codes "(") o
-      then (if is_class classes x.text && nat_lt 1 room then call_at text sum x o.place ts else None)
-      else leaf (Some (expr.local x))
+-- the statement of arguments in brackets: a start has at least its callee
+abbrev pub listed_stage : Around → Listed → List Expr → Option Stage
+listed_stage a (listed.Print p) es = Some (stage.Line (added a (stmt.print p (exprs es))))
+listed_stage a (listed.Start x p) (e ∷ es) = Some (stage.Line (added a (stmt.start x p e (exprs es))))
+listed_stage a (listed.Start x p) [] = None
 
-  abbrev pub atom_when : (List Token → Option Parsed) → ℕ → TokenKind → Token → List Token → Option Parsed
-  atom_when sum room Name t ts = option_and_then (λ w. name_at sum room (word w t.place) ts) (spelling text t)
-  atom_when sum room Reserved t ts = reserved_at text sum t ts
-  atom_when sum room Number t ts = leaf (number_value t.place (spelling text t))
-  atom_when sum room Str t ts = leaf (string_value t.place (inside text t))
-  atom_when sum room _ t ts = None
+abbrev pub behind_argument : Around → Listed → List Expr → Ending → Option Stage
+behind_argument a l es ending.Comma = Some (stage.Listing a l es)
+behind_argument a l es ending.Close = listed_stage a l es
+behind_argument a l es _ = None
 
-  abbrev pub atom_at : (List Token → Option Parsed) → ℕ → List Token → Option Parsed
-  atom_at sum room [] = None
-  atom_at sum room (t ∷ ts) = atom_when sum room t.what t ts
+abbrev pub found_argument : Around → Listed → List Expr → Option Expr → Ending → Option Stage
+found_argument a l es None n = None
+found_argument a l es (Some e) n = behind_argument a l (es ++ (e ∷ [])) n
 
-  abbrev pub part_at : (List Token → Option Parsed) → ℕ → List Token → Option Parsed
-  part_at sum room ts = option_and_then (λ a. part_more text room a (drop a.len ts)) (atom_at sum room ts)
+abbrev pub argument_next : Around → Listed → List Expr → Option Expr → Ending → Option Mode → Option Stage
+argument_next a l es o n (Some m) = Some (stage.Argument a l es m)
+argument_next a l es o n None = found_argument a l es o n
 
-  -- a sum of at most this weight
-  unfoldable pub read_sum : ℕ → List Token → Option Parsed
-  read_sum zero ts = None
-  read_sum (suc r) ts = sum_at text (part_at (read_sum r) (suc r)) (suc r) ts
+abbrev pub argument_step : Around → Listed → List Expr → Mode → Spelled → Option Stage
+argument_step a l es m t = argument_next a l es (finish m) (ending_of t.what) (step heaviest m t)
 
-  -- a part of at most this weight
-  abbrev pub read_part : ℕ → List Token → Option Parsed
-  read_part room ts = part_at (read_sum (room - 1)) room ts
+abbrev pub listing_at : Around → Listed → List Expr → Ending → Option Stage → Option Stage
+listing_at a l es ending.Close o = listed_stage a l es
+listing_at a l es _ o = o
+
+abbrev pub listing_step : Around → Listed → List Expr → Spelled → Option Stage
+listing_step a l es t = listing_at a l es (ending_of t.what) (argument_step a l es (mode.Want []) t)
+
+abbrev pub print_word : Around → Place → What → Option Stage
+print_word a p what.Open = Some (stage.Listing a (listed.Print p) [])
+print_word a p _ = None
+
+abbrev pub start_word : Around → Word → Place → What → Option Stage
+start_word a x p what.Open = Some (stage.Listing a (listed.Start x p) [])
+start_word a x p _ = None
+
+-- ---- statements that an expression begins
+
+abbrev pub plain_found : Around → Option Expr → Ending → Option Stage
+plain_found a (Some e) ending.Newline = Some (added_stage a (stmt.plain e))
+plain_found a _ _ = None
+
+abbrev pub plain_next : Around → Option Expr → Ending → Option Mode → Option Stage
+plain_next a o n (Some m) = Some (stage.Plain a m)
+plain_next a o n None = plain_found a o n
+
+abbrev pub plain_on : Around → Mode → Spelled → Option Stage
+plain_on a m t = plain_next a (finish m) (ending_of t.what) (step heaviest m t)
+
+-- behind a `.` where no bracket or operator is open, what was read may be the receiver of a target
+abbrev pub plain_held : Around → List Frame → Expr → ℕ → Ending → Option Stage → Option Stage
+plain_held a [] e w ending.Dot o = Some (stage.Dotted a e w)
+plain_held a k e w n o = o
+
+abbrev pub plain_at : Around → Mode → Ending → Option Stage → Option Stage
+plain_at a (mode.Have h) n o = plain_held a h.stack h.tree h.weight n o
+plain_at a m n o = o
+
+abbrev pub plain_step : Around → Mode → Spelled → Option Stage
+plain_step a m t = plain_at a m (ending_of t.what) (plain_on a m t)
+
+abbrev pub dotted_step : Around → Expr → ℕ → Place → What → Option Stage
+dotted_step a o w p (what.Name x) = Some (stage.Target a o w (word x p))
+dotted_step a o w p _ = None
+
+-- a target is no expression; what goes on as one is an attribute, which weighs one more than its receiver
+abbrev pub attribute_step : Bool → Around → Expr → ℕ → Word → Spelled → Option Stage
+attribute_step true a o w x t = plain_step a (mode.Have (held [] (expr.read o x) (suc w))) t
+attribute_step false a o w x t = None
+
+abbrev pub target_at : Around → Expr → Word → Ending → Option Stage → Option Stage
+target_at a o x ending.Equals s = Some (inside a (for_.Write o x))
+target_at a o x _ s = s
+
+abbrev pub target_step : Around → Expr → ℕ → Word → Spelled → Option Stage
+target_step a o w x t = target_at a o x (ending_of t.what) (attribute_step (nat_lt w heaviest) a o w x t)
+
+abbrev pub named_at : Around → Word → Ending → Option Stage → Option Stage
+named_at a x ending.Equals s = Some (stage.Assigning a x)
+named_at a x ending.Colon s = Some (stage.Typed a x (type_mode.Want []))
+named_at a x _ s = s
+
+abbrev pub named_step : Around → Word → Spelled → Option Stage
+named_step a x t = named_at a x (ending_of t.what) (plain_step a (mode.Have (held [] (expr.local x) 1)) t)
+
+abbrev pub assigning_at : Around → Word → Ending → Option Stage → Option Stage
+assigning_at a x ending.Start o = Some (stage.StartWord a x)
+assigning_at a x _ o = o
+
+abbrev pub assigning_step : Around → Word → Spelled → Option Stage
+assigning_step a x t = assigning_at a x (ending_of t.what) (inside_step a (for_.Assign x None) (mode.Want []) t)
+
+abbrev pub typed_end : Around → Word → Option Weighed → Ending → Option Stage
+typed_end a x (Some t) ending.Equals = Some (inside a (for_.Assign x (Some t.ann)))
+typed_end a x _ _ = None
+
+abbrev pub typed_next : Around → Word → Option Weighed → Ending → Option TypeMode → Option Stage
+typed_next a x o w (Some m) = Some (stage.Typed a x m)
+typed_next a x o w None = typed_end a x o w
+
+abbrev pub typed_step : Around → Word → TypeMode → Spelled → Option Stage
+typed_step a x m t = typed_next a x (type_finish m) (ending_of t.what) (type_step heaviest m t)
+
+abbrev pub returning_at : Around → Place → Ending → Option Stage → Option Stage
+returning_at a p ending.Newline o = Some (added_stage a (stmt.give p None))
+returning_at a p _ o = o
+
+abbrev pub returning_step : Around → Place → Spelled → Option Stage
+returning_step a p t = returning_at a p (ending_of t.what) (inside_step a (for_.Return p) (mode.Want []) t)
+
+-- ---- the beginning of a statement
+
+abbrev pub start_mark : Around → Place → Mark → Option Stage
+start_mark a p mark.Pass = Some (stage.Line (added a stmt.pass))
+start_mark a p mark.Return = stage_if (is_def a.floor) (stage.Returning a p)
+start_mark a p mark.Print = Some (stage.PrintWord a)
+start_mark a p mark.If = stage_if (nat_lt (depth a) deepest) (inside a (for_.Branch []))
+start_mark a p mark.While = stage_if (nat_lt (depth a) deepest) (inside a for_.While)
+start_mark a p mark.Class = class_at a.floor a.opened
+start_mark a p mark.Def = def_at a.floor a.opened
+start_mark a p mark.Dedent = left a.floor a.opened a.done
+start_mark a p mark.End = end_at a.floor a.opened
+start_mark a p _ = None
+
+abbrev pub start_at : Around → Place → What → Option Stage → Option Stage
+start_at a p (what.Name x) o = Some (stage.Named a (word x p))
+start_at a p (what.Mark m) o = start_mark a p m
+start_at a p _ o = o
+
+abbrev pub start_step : Around → Spelled → Option Stage
+start_step a t = start_at a t.place t.what (plain_on a (mode.Want []) t)
+
+-- behind the block of an `if` or `elif`
+abbrev pub behind_at : Around → List Branch → Ending → Option Stage → Option Stage
+behind_at a bs ending.Elif o = Some (inside a (for_.Branch bs))
+behind_at a bs ending.Else o = Some (stage.HeadColon a (head.Else bs))
+behind_at a bs _ o = o
+
+abbrev pub behind_step : Around → List Branch → Spelled → Option Stage
+behind_step a bs t = behind_at a bs (ending_of t.what) (start_step (added a (stmt.if_any (branches bs) stmt.no_else)) t)
+
+-- ---- fixed tokens
+
+-- behind a simple statement
+abbrev pub line_step : Around → What → Option Stage
+line_step a (what.Mark mark.Newline) = Some (stage.Start a)
+line_step a _ = None
+
+abbrev pub head_colon : Around → Head → What → Option Stage
+head_colon a h (what.Mark mark.Colon) = Some (stage.HeadLine a h)
+head_colon a h _ = None
+
+abbrev pub head_line : Around → Head → What → Option Stage
+head_line a h (what.Mark mark.Newline) = Some (stage.HeadBlock a h)
+head_line a h _ = None
+
+abbrev pub head_block : Around → Head → What → Option Stage
+head_block a h (what.Mark mark.Indent) = Some (stage.Start (entered a h))
+head_block a h _ = None
+
+-- ---- classes and functions
+
+abbrev pub class_stage_of : List Item → ClassStage → Stage
+class_stage_of is (class_stage.Done c) = stage.Start (top (is ++ (item.Class c ∷ [])))
+class_stage_of is m = stage.Class is m
+
+abbrev pub class_next : List Item → Option ClassStage → Option Stage
+class_next is None = None
+class_next is (Some m) = Some (class_stage_of is m)
+
+abbrev pub def_stage_of : List Item → DefStage → Stage
+def_stage_of is (def_stage.Done h) = stage.Start (around (floor.Def is h) [] [])
+def_stage_of is m = stage.Def is m
+
+abbrev pub def_next : List Item → Option DefStage → Option Stage
+def_next is None = None
+def_next is (Some m) = Some (def_stage_of is m)
+
+-- ---- all stages
+
+abbrev pub script_step : Stage → Spelled → Option Stage
+script_step (stage.Start a) t = start_step a t
+script_step (stage.Behind a bs) t = behind_step a bs t
+script_step (stage.Line a) t = line_step a t.what
+script_step (stage.Named a x) t = named_step a x t
+script_step (stage.Plain a m) t = plain_step a m t
+script_step (stage.Dotted a o w) t = dotted_step a o w t.place t.what
+script_step (stage.Target a o w x) t = target_step a o w x t
+script_step (stage.Typed a x m) t = typed_step a x m t
+script_step (stage.Assigning a x) t = assigning_step a x t
+script_step (stage.Returning a p) t = returning_step a p t
+script_step (stage.Inside a u m) t = inside_step a u m t
+script_step (stage.PrintWord a) t = print_word a t.place t.what
+script_step (stage.StartWord a x) t = start_word a x t.place t.what
+script_step (stage.Listing a l es) t = listing_step a l es t
+script_step (stage.Argument a l es m) t = argument_step a l es m t
+script_step (stage.HeadColon a h) t = head_colon a h t.what
+script_step (stage.HeadLine a h) t = head_line a h t.what
+script_step (stage.HeadBlock a h) t = head_block a h t.what
+script_step (stage.Class is m) t = class_next is (class_step m t)
+script_step (stage.Def is m) t = def_next is (def_step m t)
+script_step (stage.Ended is) t = None
+
+-- ---- what the code needs besides
+
+abbrev pub IsLightStage : Stage → Type 0
+IsLightStage (stage.Plain a m) = IsLightMode m
+IsLightStage (stage.Inside a u m) = IsLightMode m
+IsLightStage (stage.Argument a l es m) = IsLightMode m
+IsLightStage (stage.Typed a x m) = IsLightType m
+IsLightStage (stage.Class is m) = IsLightClass m
+IsLightStage (stage.Def is m) = IsLightDef m
+IsLightStage _ = Unit {0}
+
+abbrev pub stage_turn : Stage → Turn
+stage_turn (stage.Ended is) = turn.Done is
+stage_turn s = turn.Go s
+
+abbrev pub turn_of : Option Stage → Turn
+turn_of None = turn.Stop
+turn_of (Some s) = stage_turn s

@@ -1,149 +1,181 @@
-ghost use Rattle.std.specs.Prelude.{◌≡◌, ◌+◌, ◌*◌, ◌<◌, ◌≤◌, ◌^◌, [], ◌∷◌, false, length, IfOk, IfSome, drop};
-ghost use Rattle.parse_script.specs.Lines.{heads, field_of, field_at, fields_more, class_head, class_at};
+ghost use Rattle.std.specs.Prelude.{◌≡◌, IfOk};
+ghost use Rattle.parse_expr.specs.TypeReading.{IsLightType};
+ghost use Rattle.parse_script.specs.ClassReading.{class_word, class_name, class_colon, class_line, class_body, class_pass, class_pass_line, class_field, field_end, class_fields, class_step, class_turn, IsLightClass};
 
-use crate::front::Front;
-use crate::leaf::type_of;
-use crate::names::ClassNames;
-use crate::parsed::word;
-use crate::spelling::{front, is_sign, is_word, name_of, past};
-use mono_syntax::{ClassDef, FieldDef, Item, Word};
-use py_lexer::{Token, TokenKind};
+use crate::ending::ending_of;
+use crate::stage::{ClassStage, ClassTurn, Ending};
+use mono_list::Stack;
+use mono_syntax::{ClassDef, FieldDef, Place, Word};
+use parse_expr::{TypeMode, TypeNext, Weighed, type_step};
+use spelled_tokens::{Mark, Spelled, What};
 use sqlite_items::Items;
 use std::alloc::{AllocError, Global};
 
-/// The names behind the words `class`.
-pub fn class_names(alloc: Global, text: &str, tokens: &[Token]) -> Result<ClassNames, AllocError>
-    ensures { IfOk result (λ names. names ≡ heads text.now false tokens.now) }
+/// Behind `class`.
+fn class_word(place: Place, what: What) -> ClassTurn
+    ensures { result ≡ class_turn (class_word place what) }
 {
-    let mut names = ClassNames::new(alloc);
-    let mut behind = false;
-    let mut rest = tokens;
-    while let Some((token, next)) = front(rest) {
-        if behind {
-            if let Some(name) = name_of(text, token) {
-                names = names.with(alloc, name)?;
-            }
+    match what {
+        What::Name(text) => ClassTurn::Go(ClassStage::Name(Word { text, place })),
+        _ => ClassTurn::Stop,
+    }
+}
+
+fn class_name(name: Word, what: What) -> ClassTurn
+    ensures { result ≡ class_turn (class_name name what) }
+{
+    match what {
+        What::Mark(Mark::Colon) => ClassTurn::Go(ClassStage::Colon(name)),
+        _ => ClassTurn::Stop,
+    }
+}
+
+fn class_colon(name: Word, what: What) -> ClassTurn
+    ensures { result ≡ class_turn (class_colon name what) }
+{
+    match what {
+        What::Mark(Mark::Newline) => ClassTurn::Go(ClassStage::Line(name)),
+        _ => ClassTurn::Stop,
+    }
+}
+
+fn class_line(name: Word, what: What) -> ClassTurn
+    ensures { result ≡ class_turn (class_line name what) }
+{
+    match what {
+        What::Mark(Mark::Indent) => ClassTurn::Go(ClassStage::Body(name)),
+        _ => ClassTurn::Stop,
+    }
+}
+
+/// The first line of the block.
+fn class_body(alloc: Global, name: Word, place: Place, what: What) -> ClassTurn
+    ensures { result ≡ class_turn (class_body name place what) }
+{
+    match what {
+        What::Name(text) => {
+            let field = Word { text, place };
+            ClassTurn::Go(ClassStage::Field(name, Items::new(alloc), field))
         }
-        behind = is_word(text, "class", token);
-        rest = next;
+        What::Mark(Mark::Pass) => ClassTurn::Go(ClassStage::Pass(name)),
+        _ => ClassTurn::Stop,
     }
-    Ok(names)
 }
 
-fn field(
+fn class_pass(name: Word, what: What) -> ClassTurn
+    ensures { result ≡ class_turn (class_pass name what) }
+{
+    match what {
+        What::Mark(Mark::Newline) => ClassTurn::Go(ClassStage::PassLine(name)),
+        _ => ClassTurn::Stop,
+    }
+}
+
+fn class_pass_line(alloc: Global, name: Word, what: What) -> ClassTurn
+    ensures { result ≡ class_turn (class_pass_line name what) }
+{
+    match what {
+        What::Mark(Mark::Dedent) => ClassTurn::Go(ClassStage::Done(ClassDef {
+            name,
+            fields: Items::new(alloc),
+        })),
+        _ => ClassTurn::Stop,
+    }
+}
+
+/// Behind the name of a field.
+fn class_field(
     alloc: Global,
-    text: &str,
-    name: &Token,
-    ty: &Token,
-) -> Result<Option<FieldDef>, AllocError>
-    ensures { IfOk result (λ f. f ≡ field_of text.now name.now ty.now) }
+    name: Word,
+    fields: Items<FieldDef>,
+    field: Word,
+    what: What,
+) -> ClassTurn
+    ensures { result ≡ class_turn (class_field name fields field what) }
 {
-    let Some(spelling) = name_of(text, name) else {
-        return Ok(None);
-    };
-    let Some(ann) = type_of(alloc, text, ty)? else {
-        return Ok(None);
-    };
-    let name = word(alloc, spelling, name.place)?;
-    Ok(Some(FieldDef { name, ann }))
-}
-
-/// A field: NAME `:` T NEWLINE.
-fn field_at(alloc: Global, text: &str, tokens: &[Token]) -> Result<Option<FieldDef>, AllocError>
-    ensures value { IfOk result (λ f. f ≡ field_at text.now tokens.now) }
-    ensures within { IfOk result (λ f. IfSome f (λ x. 4 ≤ length tokens.now)) }
-{
-    let [name, tokens @ ..] = tokens else {
-        return Ok(None);
-    };
-    let [colon, tokens @ ..] = tokens else {
-        return Ok(None);
-    };
-    let [ty, tokens @ ..] = tokens else {
-        return Ok(None);
-    };
-    let [newline, ..] = tokens else {
-        return Ok(None);
-    };
-    if is_sign(text, ":", colon) && matches!(newline.what, TokenKind::Newline) {
-        field(alloc, text, name, ty)
-    } else {
-        Ok(None)
-    }
-}
-
-/// The name in NAME `:` NEWLINE INDENT.
-fn class_head(alloc: Global, text: &str, tokens: &[Token]) -> Result<Option<Word>, AllocError>
-    ensures value { IfOk result (λ x. x ≡ class_head text.now tokens.now) }
-    ensures within { IfOk result (λ x. IfSome x (λ w. 4 ≤ length tokens.now)) }
-{
-    let [name, tokens @ ..] = tokens else {
-        return Ok(None);
-    };
-    let [colon, tokens @ ..] = tokens else {
-        return Ok(None);
-    };
-    let [newline, tokens @ ..] = tokens else {
-        return Ok(None);
-    };
-    let [indent, ..] = tokens else {
-        return Ok(None);
-    };
-    if !is_sign(text, ":", colon) {
-        return Ok(None);
-    }
-    if !matches!(newline.what, TokenKind::Newline) || !matches!(indent.what, TokenKind::Indent) {
-        return Ok(None);
-    }
-    let Some(spelling) = name_of(text, name) else {
-        return Ok(None);
-    };
-    let word = word(alloc, spelling, name.place)?;
-    Ok(Some(word))
-}
-
-/// The fields behind the first up to a DEDENT.
-fn fields_more(
-    alloc: Global,
-    text: &str,
-    first: FieldDef,
-    tokens: &[Token],
-) -> Result<Option<Items<FieldDef>>, AllocError>
-    ensures value { IfOk result (λ fields. fields ≡ fields_more text.now 0 (first ∷ []) tokens.now) }
-    ensures within { IfOk result (λ fields. IfSome fields (λ fs. 4 * length fs ≤ length tokens.now + 3)) }
-{
-    let mut fields = Items::new(alloc);
-    fields.push(first)?;
-    let mut rest = tokens;
-    while let Some((token, _)) = front(rest) {
-        if matches!(token.what, TokenKind::Dedent) {
-            return Ok(Some(fields));
+    match what {
+        What::Mark(Mark::Colon) => {
+            let mode = TypeMode::Want(Stack::new(alloc));
+            ClassTurn::Go(ClassStage::Type(name, fields, field, mode))
         }
-        let Some(field) = field_at(alloc, text, rest)? else {
-            return Ok(None);
-        };
-        fields.push(field)?;
-        rest = past(rest, 4);
+        _ => ClassTurn::Stop,
     }
-    Ok(None)
 }
 
-/// A class, behind its word.
-pub fn class_at(alloc: Global, text: &str, tokens: &[Token]) -> Result<Option<Front>, AllocError>
-    ensures value { IfOk result (λ class. class ≡ class_at text.now tokens.now) }
-    ensures within { IfOk result (λ class. IfSome class (λ c. (0 < c.len) × (c.len ≤ length tokens.now + 1))) }
+fn field_end(
+    name: Word,
+    fields: Items<FieldDef>,
+    field: Word,
+    found: Option<Weighed>,
+    ending: Ending,
+) -> Result<ClassTurn, AllocError>
+    ensures { IfOk result (λ n. n ≡ class_turn (field_end name fields field found ending)) }
 {
-    let Some(name) = class_head(alloc, text, tokens)? else {
-        return Ok(None);
+    let Some(Weighed { ann, .. }) = found else {
+        return Ok(ClassTurn::Stop);
     };
-    let body = past(tokens, 4);
-    let Some(first) = field_at(alloc, text, body)? else {
-        return Ok(None);
-    };
-    let Some(fields) = fields_more(alloc, text, first, past(body, 4))? else {
-        return Ok(None);
-    };
-    let len = 4 * fields.len() + 6;
-    let item = Item::Class(ClassDef { name, fields });
-    Ok(Some(Front { item, len }))
+    match ending {
+        Ending::Newline => {
+            let mut fields = fields;
+            fields.push(FieldDef { name: field, ann })?;
+            Ok(ClassTurn::Go(ClassStage::Fields(name, fields)))
+        }
+        _ => Ok(ClassTurn::Stop),
+    }
+}
+
+/// In the type of a field: it goes on, or ends.
+fn class_type(
+    alloc: Global,
+    name: Word,
+    fields: Items<FieldDef>,
+    field: Word,
+    mode: TypeMode,
+    token: Spelled,
+) -> Result<ClassTurn, AllocError>
+    requires { IsLightType mode }
+    ensures { IfOk result (λ n. n ≡ class_turn (class_step (ClassStage.Type name fields field mode) token)) }
+{
+    let ending = ending_of(&token.what);
+    match type_step(alloc, 100, mode, token)? {
+        TypeNext::Go(mode) => Ok(ClassTurn::Go(ClassStage::Type(name, fields, field, mode))),
+        TypeNext::Stop(found) => field_end(name, fields, field, found, ending),
+    }
+}
+
+/// Behind a field: the next one, or the end.
+fn class_fields(name: Word, fields: Items<FieldDef>, place: Place, what: What) -> ClassTurn
+    ensures { result ≡ class_turn (class_fields name fields place what) }
+{
+    match what {
+        What::Name(text) => ClassTurn::Go(ClassStage::Field(name, fields, Word { text, place })),
+        What::Mark(Mark::Dedent) => ClassTurn::Go(ClassStage::Done(ClassDef { name, fields })),
+        _ => ClassTurn::Stop,
+    }
+}
+
+/// One more token of a class.
+pub fn class_step(alloc: Global, stage: ClassStage, token: Spelled) -> Result<ClassTurn, AllocError>
+    requires { IsLightClass stage }
+    ensures { IfOk result (λ n. n ≡ class_turn (class_step stage token)) }
+{
+    match stage {
+        ClassStage::Word => Ok(class_word(token.place, token.what)),
+        ClassStage::Name(name) => Ok(class_name(name, token.what)),
+        ClassStage::Colon(name) => Ok(class_colon(name, token.what)),
+        ClassStage::Line(name) => Ok(class_line(name, token.what)),
+        ClassStage::Body(name) => Ok(class_body(alloc, name, token.place, token.what)),
+        ClassStage::Pass(name) => Ok(class_pass(name, token.what)),
+        ClassStage::PassLine(name) => Ok(class_pass_line(alloc, name, token.what)),
+        ClassStage::Field(name, fields, field) => {
+            Ok(class_field(alloc, name, fields, field, token.what))
+        }
+        ClassStage::Type(name, fields, field, mode) => {
+            class_type(alloc, name, fields, field, mode, token)
+        }
+        ClassStage::Fields(name, fields) => {
+            Ok(class_fields(name, fields, token.place, token.what))
+        }
+        ClassStage::Done(_) => Ok(ClassTurn::Stop),
+    }
 }

@@ -1,19 +1,16 @@
-//! From the tokens of a script to its tree, for scripts of classes and lines: a line assigns a sum to a name or an attribute, or
-//! prints one. Tokens and their text come in, and the tree goes out, or a refusal at the text's first place. The contract says
-//! that the tree is the one that the grammar gives, and that tokens are refused exactly where the grammar gives none.
+//! From the tokens of a script to its tree. Tokens and their text come in, and the tree goes out, or a refusal at the first
+//! token that no script has there. The contract says that the tree is the one that the grammar gives.
 #![tactic(auto)]
 
+mod arguments;
+mod around;
 mod class;
-mod expression;
-mod front;
-mod leaf;
-mod line;
-mod names;
-mod parsed;
+mod ending;
+mod expressions;
+mod function;
+pub mod laws;
 mod parsing;
 mod script;
-mod spelling;
-#[cfg(test)]
-mod tests;
+mod stage;
 
 pub use parsing::parse;
