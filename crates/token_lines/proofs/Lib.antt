@@ -1,0 +1,14 @@
+pub mod Cutting
+pub mod Sound
+pub mod Ascii
+pub mod Numbers
+pub mod Quotes
+pub mod Follows
+pub mod FrontPieces
+pub mod TokenPieces
+pub mod EachToken
+pub mod Steps
+pub mod RowScan
+pub mod Blocks
+pub mod LinesLex
+pub mod Sheets

@@ -1,0 +1,4 @@
+pub mod Brackets
+pub mod ScriptLines
+pub mod Placeless
+pub mod Reading
