@@ -5,9 +5,12 @@ use Rattle.mono_io.specs.Faults.{Rose, IsTold, IsTooLong}
 use Rattle.cast_machine.specs.declared.data.End.{End}
 use Rattle.cast_machine.specs.declared.data.End.TheVariants as ends
 use Rattle.mono_cli.specs.Ends.{status_of_end}
-use Rattle.mono_cli.specs.Answer.{Answer, refused, usage, unfetched}
+use Rattle.mono_cli.specs.Answer.{Answer, refused, listed, usage, unfetched}
 use Rattle.load_script.specs.Phases.{IsFirstRefusal, too_long}
-use Rattle.mono_cli.specs.Scripts.{AnswersText, IsRefusedAnswer, IsProgramAnswer}
+use Rattle.mono_cli.specs.Scripts.{AnswersText, IsAccepted, IsRefusedAnswer, IsProgramAnswer}
+use Rattle.mono_cli.specs.declared.words.Verb.{Verb}
+use Rattle.mono_cli.specs.declared.words.Verb.TheVariants as verb
+use Rattle.mono_syntax.specs.declared.cast.CastScript.{CastScript}
 use Rattle.mono_cli.specs.Commands.{AnswersTold, IsAnswer}
 use Rattle.mono_cli.specs.Showing.{Shows}
 use Rattle.mono_cli.proofs.Shown.{shows_also, shows_whole}
@@ -22,8 +25,8 @@ longer : (told : Option (List ℕ)) (n : ℕ) → IsTooLong told n → (bytes : 
 longer None n h = let some = more_zeros n in (some.0, tt, some.1)
 longer (Some bytes) n h = (bytes, refl, h)
 
-pub long_told : (told : Option (List ℕ)) → IsTooLong told 1048576 → (a : Answer) → a ≡ refused too_long → AnswersTold told a
-long_told told h a e = let some = longer told 1048576 h in record { bytes = some.0; are_told = some.1; answers = long_answers some.0 some.2 a e }
+pub long_told : (v : Verb) (told : Option (List ℕ)) → IsTooLong told 1048576 → (a : Answer) → a ≡ refused too_long → AnswersTold v told a
+long_told v told h a e = let some = longer told 1048576 h in record { bytes = some.0; are_told = some.1; answers = long_answers v some.0 some.2 a e }
 
 ended_most : (e : End) → status_of_end e ≤ 6
 ended_most ends.Done = omega arith
@@ -40,43 +43,47 @@ ended_most ends.DepthLimit = omega arith
 status_along : (a b : Answer) → a ≡ b → b.status ≤ 6 → a.status ≤ 6
 status_along a b e l = subst (λ (x : Answer). x.status ≤ 6) (sym e) l
 
-text_most : (text : List ℕ) (a : Answer) → IsRefusedAnswer text a ⊎ IsProgramAnswer text a → a.status ≤ 6
-text_most text a (inl h) = status_along a (refused h.refusal) h.says (omega arith)
-text_most text a (inr h) = status_along a _ (h.runs).says (ended_most (h.runs).end)
+accepted_most : (v : Verb) (p : CastScript) (a : Answer) → IsAccepted v p a → a.status ≤ 6
+accepted_most verb.Step p a h = status_along a _ h.says (ended_most h.end)
+accepted_most verb.Show p a h = status_along a (listed p.scoped.script) h.says (omega arith)
+
+text_most : (v : Verb) (text : List ℕ) (a : Answer) → IsRefusedAnswer text a ⊎ IsProgramAnswer v text a → a.status ≤ 6
+text_most v text a (inl h) = status_along a (refused h.refusal) h.says (omega arith)
+text_most v text a (inr h) = accepted_most v h.program a h.accepted
 
 -- an answer's status is at most 6
-pub answer_most : (file : Option (List ℕ)) (told : List ℕ → Option (List ℕ)) (s t : ℕ) (a : Answer) → IsAnswer file told s t a → a.status ≤ 6
-answer_most None told s t a h = status_along a usage h (omega arith)
-answer_most (Some file) told s t a (inl h) = text_most h.bytes a (h.answers).answers
-answer_most (Some file) told s t a (inr h) = status_along a unfetched h.1 (omega arith)
+pub answer_most : (v : Verb) (file : Option (List ℕ)) (told : List ℕ → Option (List ℕ)) (s t : ℕ) (a : Answer) → IsAnswer v file told s t a → a.status ≤ 6
+answer_most v None told s t a h = status_along a usage h (omega arith)
+answer_most v (Some file) told s t a (inl h) = text_most v h.bytes a (h.answers).answers
+answer_most v (Some file) told s t a (inr h) = status_along a unfetched h.1 (omega arith)
 
 -- the refusal of too many bytes is shown in answer to a command that names a file
-pub shows_long : (file : Option (List ℕ)) (name : List ℕ) → Some name ≡ file → (told : List ℕ → Option (List ℕ)) (s t : ℕ) → IsTooLong (told name) 1048576 →
+pub shows_long : (v : Verb) (file : Option (List ℕ)) (name : List ℕ) → Some name ≡ file → (told : List ℕ → Option (List ℕ)) (s t : ℕ) → IsTooLong (told name) 1048576 →
     (out out' : Option (List ℕ)) (o o' : ℕ) (err err' : Option (List ℕ)) (e e' status : ℕ) →
-    Shows (λ a. a ≡ refused too_long) out out' o o' err err' e e' status → Shows (λ a. IsAnswer file told s t a) out out' o o' err err' e e' status
-shows_long file name is told s t h out out' o o' err err' e e' status shown =
-    subst (λ (f : Option (List ℕ)). Shows (λ a. IsAnswer f told s t a) out out' o o' err err' e e' status) is
-    (shows_also (λ a. a ≡ refused too_long) (λ a. IsAnswer (Some name) told s t a) (λ a i. inl (long_told (told name) h a i)) out out' o o' err err' e e' status shown)
+    Shows (λ a. a ≡ refused too_long) out out' o o' err err' e e' status → Shows (λ a. IsAnswer v file told s t a) out out' o o' err err' e e' status
+shows_long v file name is told s t h out out' o o' err err' e e' status shown =
+    subst (λ (f : Option (List ℕ)). Shows (λ a. IsAnswer v f told s t a) out out' o o' err err' e e' status) is
+    (shows_also (λ a. a ≡ refused too_long) (λ a. IsAnswer v (Some name) told s t a) (λ a i. inl (long_told v (told name) h a i)) out out' o o' err err' e e' status shown)
 
 -- ---- a refused script
 
-told_text : (told : List ℕ → Option (List ℕ)) (file text : List ℕ) → told file ≡ Some text → (a : Answer) → AnswersTold (told file) a → AnswersText text a
-told_text told file text is a h =
+told_text : (v : Verb) (told : List ℕ → Option (List ℕ)) (file text : List ℕ) → told file ≡ Some text → (a : Answer) → AnswersTold v (told file) a → AnswersText v text a
+told_text v told file text is a h =
     let same : h.bytes ≡ text = subst (λ (o : Option (List ℕ)). IsTold o h.bytes) is h.are_told in
-    subst (λ (x : List ℕ). AnswersText x a) same h.answers
+    subst (λ (x : List ℕ). AnswersText v x a) same h.answers
 
-told_refuses : (told : List ℕ → Option (List ℕ)) (file text : List ℕ) → told file ≡ Some text → (r : Refusal) → IsFirstRefusal text r → (s t : ℕ) → (Rose s t → ⊥) →
-    (a : Answer) → IsAnswer (Some file) told s t a → a ≡ refused r
-told_refuses told file text is r f s t n a (inl h) = (told_text told file text is a h).refuses r f
-told_refuses told file text is r f s t n a (inr h) = absurd (n h.0)
+told_refuses : (v : Verb) (told : List ℕ → Option (List ℕ)) (file text : List ℕ) → told file ≡ Some text → (r : Refusal) → IsFirstRefusal text r → (s t : ℕ) → (Rose s t → ⊥) →
+    (a : Answer) → IsAnswer v (Some file) told s t a → a ≡ refused r
+told_refuses v told file text is r f s t n a (inl h) = (told_text v told file text is a h).refuses r f
+told_refuses v told file text is r f s t n a (inr h) = absurd (n h.0)
 
-pub shows_refusal : (file : Option (List ℕ)) (told : List ℕ → Option (List ℕ)) (s t : ℕ) (out out' : Option (List ℕ)) (o o' : ℕ) (err err' : Option (List ℕ)) (e e' status : ℕ) →
-    Shows (λ a. IsAnswer file told s t a) out out' o o' err err' e e' status →
+pub shows_refusal : (v : Verb) (file : Option (List ℕ)) (told : List ℕ → Option (List ℕ)) (s t : ℕ) (out out' : Option (List ℕ)) (o o' : ℕ) (err err' : Option (List ℕ)) (e e' status : ℕ) →
+    Shows (λ a. IsAnswer v file told s t a) out out' o o' err err' e e' status →
     (name text : List ℕ) (r : Refusal) → file ≡ Some name → told name ≡ Some text → (Rose s t → ⊥) → IsFirstRefusal text r →
     Shows (λ a. a ≡ refused r) out out' o o' err err' e e' status
-shows_refusal file told s t out out' o o' err err' e e' status shown name text r named is n f =
-    shows_also (λ a. IsAnswer file told s t a) (λ a. a ≡ refused r)
-    (λ a h. told_refuses told name text is r f s t n a (subst (λ (x : Option (List ℕ)). IsAnswer x told s t a) named h))
+shows_refusal v file told s t out out' o o' err err' e e' status shown name text r named is n f =
+    shows_also (λ a. IsAnswer v file told s t a) (λ a. a ≡ refused r)
+    (λ a h. told_refuses v told name text is r f s t n a (subst (λ (x : Option (List ℕ)). IsAnswer v x told s t a) named h))
     out out' o o' err err' e e' status shown
 
 ended_other : (e : End) → status_of_end e ≡ 1 → ⊥
@@ -91,21 +98,25 @@ ended_other ends.PrintFull h = absurd (omega (arith, h))
 ended_other ends.ThreadLimit h = absurd (omega (arith, h))
 ended_other ends.DepthLimit h = absurd (omega (arith, h))
 
-text_refused : (text : List ℕ) (a : Answer) → IsRefusedAnswer text a ⊎ IsProgramAnswer text a → a.status ≡ 1 → (r : Refusal) × IsFirstRefusal text r
-text_refused text a (inl h) one = (h.refusal, h.first)
-text_refused text a (inr h) one = absurd (ended_other (h.runs).end (ap (λ (x : Answer). x.status) (sym (h.runs).says) ∙ one))
+accepted_other : (v : Verb) (p : CastScript) (a : Answer) → IsAccepted v p a → a.status ≡ 1 → ⊥
+accepted_other verb.Step p a h one = ended_other h.end (ap (λ (x : Answer). x.status) (sym h.says) ∙ one)
+accepted_other verb.Show p a h one = let zero_is : 0 ≡ 1 = ap (λ (x : Answer). x.status) (sym h.says) ∙ one in absurd (omega (arith, zero_is))
 
-told_refused : (told : List ℕ → Option (List ℕ)) (file text : List ℕ) → told file ≡ Some text → (s t : ℕ) (a : Answer) → IsAnswer (Some file) told s t a → a.status ≡ 1 →
+text_refused : (v : Verb) (text : List ℕ) (a : Answer) → IsRefusedAnswer text a ⊎ IsProgramAnswer v text a → a.status ≡ 1 → (r : Refusal) × IsFirstRefusal text r
+text_refused v text a (inl h) one = (h.refusal, h.first)
+text_refused v text a (inr h) one = absurd (accepted_other v h.program a h.accepted one)
+
+told_refused : (v : Verb) (told : List ℕ → Option (List ℕ)) (file text : List ℕ) → told file ≡ Some text → (s t : ℕ) (a : Answer) → IsAnswer v (Some file) told s t a → a.status ≡ 1 →
     (r : Refusal) × IsFirstRefusal text r
-told_refused told file text is s t a (inl h) one = text_refused text a (told_text told file text is a h).answers one
-told_refused told file text is s t a (inr h) one =
+told_refused v told file text is s t a (inl h) one = text_refused v text a (told_text v told file text is a h).answers one
+told_refused v told file text is s t a (inr h) one =
     let six : 6 ≡ 1 = ap (λ (x : Answer). x.status) (sym h.1) ∙ one in
     absurd (omega (arith, six))
 
 -- a status of 1 comes only where there is a refusal
-pub shows_one : (file : Option (List ℕ)) (told : List ℕ → Option (List ℕ)) (s t : ℕ) (out out' : Option (List ℕ)) (o o' : ℕ) (err err' : Option (List ℕ)) (e e' status : ℕ) →
-    Shows (λ a. IsAnswer file told s t a) out out' o o' err err' e e' status →
+pub shows_one : (v : Verb) (file : Option (List ℕ)) (told : List ℕ → Option (List ℕ)) (s t : ℕ) (out out' : Option (List ℕ)) (o o' : ℕ) (err err' : Option (List ℕ)) (e e' status : ℕ) →
+    Shows (λ a. IsAnswer v file told s t a) out out' o o' err err' e e' status →
     (name text : List ℕ) → file ≡ Some name → told name ≡ Some text → status ≡ 1 → (r : Refusal) × IsFirstRefusal text r
-shows_one file told s t out out' o o' err err' e e' status shown name text named is one =
-    let all = shows_whole (λ a. IsAnswer file told s t a) out out' o o' err err' e e' status shown (omega (arith, one)) in
-    told_refused told name text is s t all.answer (subst (λ (x : Option (List ℕ)). IsAnswer x told s t all.answer) named all.is) (sym all.status_is ∙ one)
+shows_one v file told s t out out' o o' err err' e e' status shown name text named is one =
+    let all = shows_whole (λ a. IsAnswer v file told s t a) out out' o o' err err' e e' status shown (omega (arith, one)) in
+    told_refused v told name text is s t all.answer (subst (λ (x : Option (List ℕ)). IsAnswer v x told s t all.answer) named all.is) (sym all.status_is ∙ one)

@@ -3,3 +3,5 @@ pub mod Shown
 pub mod TextAnswers
 pub mod CommandAnswers
 pub mod Running
+pub mod ProgramTree
+pub mod EachLine

@@ -2,7 +2,10 @@
 use Rattle.std.specs.Prelude.{ℕ, List, [], codes}
 use Rattle.mono_syntax.specs.declared.cast.CastScript.{CastScript}
 use Rattle.mono_syntax.specs.declared.refusal.Refusal.{Refusal}
+use Rattle.mono_syntax.specs.declared.tree.Script.{Script}
 use Rattle.mono_syntax.specs.declared.value.Val.{Val}
+use Rattle.token_lines.specs.Lines.{lines_text}
+use Rattle.tree_print.specs.ScriptLines.{script_lines}
 use Rattle.cast_machine.specs.declared.data.End.{End}
 use Rattle.mono_cli.specs.Texts.{rendered}
 use Rattle.mono_cli.specs.Ends.{placed_line, reason_text, end_text, status_of_end}
@@ -28,3 +31,7 @@ refused r = record { status = 1; out = []; err = placed_line (codes "refused ") 
 -- the answer to a script that printed these lines and came to this end
 abbrev pub ended : CastScript → List (List Val) → End → Answer
 ended p lines e = record { status = status_of_end e; out = rendered p.scoped.script.items lines; err = end_text p.sites e }
+
+-- the answer that lists a script
+abbrev pub listed : Script → Answer
+listed s = record { status = 0; out = lines_text (script_lines s); err = [] }

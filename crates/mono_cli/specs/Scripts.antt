@@ -1,4 +1,4 @@
--- What a script's bytes come to: their first refusal, or the run of their program, which is safe.
+-- What a script's bytes come to: their first refusal, or the run of their program, which is safe, or its text.
 use Rattle.std.specs.Prelude.{◌≡◌, ◌⊎◌, ℕ, true, List, Some, is_some}
 use Rattle.mono_syntax.specs.declared.cast.CastScript.{CastScript}
 use Rattle.mono_syntax.specs.declared.refusal.Refusal.{Refusal}
@@ -7,7 +7,11 @@ use Rattle.cast_machine.specs.declared.data.End.{End}
 use Rattle.cast_machine.specs.declared.data.Settings.{Settings}
 use Rattle.cast_machine.specs.Step.{Configuration, start_of, run_of, IsSeededRun}
 use Rattle.cast_machine.specs.Safety.{IsSafe}
-use Rattle.mono_cli.specs.Answer.{Answer, refused, ended}
+use Rattle.mono_syntax.specs.declared.tree.Script.{Script}
+use Rattle.tree_print.specs.Reading.{ReadsBack}
+use Rattle.mono_cli.specs.declared.words.Verb.{Verb}
+use Rattle.mono_cli.specs.declared.words.Verb.TheVariants as verb
+use Rattle.mono_cli.specs.Answer.{Answer, refused, ended, listed}
 
 -- the limits of a run and its seed where the command names none
 abbrev pub defaults : Settings
@@ -39,13 +43,23 @@ pub record IsRunAnswer (p : CastScript) (a : Answer) : Type 0 where
   pub ends : last.end ≡ Some end
   pub says : a ≡ ended p last.lines end
 
--- the answer is that of the run of these bytes' program
-pub record IsProgramAnswer (text : List ℕ) (a : Answer) : Type 0 where
+-- the answer lists the script s, and what is put on out reads back: it has the same tree but for places
+pub record IsListing (s : Script) (a : Answer) : Type 0 where
+  pub says : a ≡ listed s
+  pub reads : ReadsBack a.out s
+
+-- the answer of a command to the program of an accepted script
+abbrev pub IsAccepted : Verb → CastScript → Answer → Type 0
+IsAccepted verb.Step p a = IsRunAnswer p a
+IsAccepted verb.Show p a = IsListing p.scoped.script a
+
+-- the answer is that of the command to these bytes' program
+pub record IsProgramAnswer (v : Verb) (text : List ℕ) (a : Answer) : Type 0 where
   pub program : CastScript
   pub is : IsProgramOf text program
-  pub runs : IsRunAnswer program a
+  pub accepted : IsAccepted v program a
 
--- the answer to these bytes: their refusal exactly where they have one, and else what their run shows
-pub record AnswersText (text : List ℕ) (a : Answer) : Type 0 where
+-- the answer to these bytes: their refusal exactly where they have one, and else what the command makes of their program
+pub record AnswersText (v : Verb) (text : List ℕ) (a : Answer) : Type 0 where
   pub refuses : (r : Refusal) → IsFirstRefusal text r → a ≡ refused r
-  pub answers : IsRefusedAnswer text a ⊎ IsProgramAnswer text a
+  pub answers : IsRefusedAnswer text a ⊎ IsProgramAnswer v text a

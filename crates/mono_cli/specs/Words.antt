@@ -1,5 +1,7 @@
 -- The command line.
-use Rattle.std.specs.Prelude.{ℕ, Bool, true, false, not, ◌&&◌, ◌==◌, List, [], ◌∷◌, Option, Some, None, codes, bytes_eq, if◌then◌else◌}
+use Rattle.std.specs.Prelude.{ℕ, Bool, true, false, not, ◌==◌, List, [], ◌∷◌, Option, Some, None, codes, bytes_eq, if◌then◌else◌}
+use Rattle.mono_cli.specs.declared.words.Verb.{Verb}
+use Rattle.mono_cli.specs.declared.words.Verb.TheVariants as verb
 
 -- a word that names a file: it isn't empty, and begins with `-` only where it is `-` alone
 abbrev pub is_file : List ℕ → Bool
@@ -7,7 +9,27 @@ is_file [] = false
 is_file (b ∷ []) = true
 is_file (b ∷ c ∷ bs) = not (b == 45)
 
--- the file of the command line `step FILE`; all other words are none
+-- the command of this name
+abbrev pub verb_of : List ℕ → Option Verb
+verb_of w =
+    if bytes_eq w (codes "step") then Some verb.Step
+    else (if bytes_eq w (codes "show") then Some verb.Show
+    else None)
+
+abbrev pub file_when : Option Verb → List ℕ → Option (List ℕ)
+file_when None file = None
+file_when (Some v) file = if is_file file then Some file else None
+
+-- the file of a command line `step FILE` or `show FILE`; all other words are none
 abbrev pub file_of : List (List ℕ) → Option (List ℕ)
-file_of (command ∷ file ∷ []) = if bytes_eq command (codes "step") && is_file file then Some file else None
+file_of (command ∷ file ∷ []) = file_when (verb_of command) file
 file_of words = None
+
+abbrev pub verb_or_step : Option Verb → Verb
+verb_or_step None = verb.Step
+verb_or_step (Some v) = v
+
+-- what a command line asks for; of words that are no command line it says `step`, and nothing hangs on it
+abbrev pub asked : List (List ℕ) → Verb
+asked [] = verb.Step
+asked (command ∷ words) = verb_or_step (verb_of command)

@@ -1,11 +1,14 @@
 ghost use Rattle.std.specs.Prelude.{◌≡◌, ◌≤◌, length, IfOk};
 ghost use Rattle.mono_tree.specs.WellTyped.{IsWellTypedProgram};
-ghost use Rattle.mono_cli.specs.Scripts.{RunsTo, AnswersText, IsRunAnswer};
+ghost use Rattle.mono_cli.specs.Scripts.{RunsTo, AnswersText, IsAccepted, IsRunAnswer};
 ghost use Rattle.mono_cli.specs.Showing.{Shows};
+ghost use Rattle.tree_print.specs.Reading.{IsGrammatical};
 
 use crate::ends::{end_text, status_of_end};
+use crate::listing::show_listing;
 use crate::refusals::show_refusal;
 use crate::show::show_run;
+use crate::words::Verb;
 use cast_calculus::{Config, Settings};
 use load_script::load;
 use mono_io::Sink;
@@ -55,14 +58,39 @@ fn show_script<K: Sink, E: Sink>(alloc: Global, script: &CastScript, out: &mut K
     )
 }
 
+/// Shows what a command makes of a script.
+fn show_accepted<K: Sink, E: Sink>(
+    alloc: Global,
+    verb: Verb,
+    script: &CastScript,
+    out: &mut K,
+    err: &mut E,
+) -> u8
+    requires typed { IsWellTypedProgram script.now }
+    requires tree { IsGrammatical script.now.scoped.script }
+    ensures { Shows (λ a. IsAccepted verb script.now a) (K.told out.old) (K.told out.new) (K.faults out.old) (K.faults out.new)
+        (E.told err.old) (E.told err.new) (E.faults err.old) (E.faults err.new) result }
+{
+    match verb {
+        Verb::Step => show_script(alloc, script, out, err),
+        Verb::Show => show_listing(alloc, script.scoped.get().script.get(), out),
+    }
+}
+
 /// Shows what the bytes of a script come to.
-pub fn show_text<K: Sink, E: Sink>(alloc: Global, text: &[u8], out: &mut K, err: &mut E) -> u8
+pub fn show_text<K: Sink, E: Sink>(
+    alloc: Global,
+    verb: Verb,
+    text: &[u8],
+    out: &mut K,
+    err: &mut E,
+) -> u8
     requires { length text.now ≤ 1048576 }
-    ensures { Shows (λ a. AnswersText text.now a) (K.told out.old) (K.told out.new) (K.faults out.old) (K.faults out.new)
+    ensures { Shows (λ a. AnswersText verb text.now a) (K.told out.old) (K.told out.new) (K.faults out.old) (K.faults out.new)
         (E.told err.old) (E.told err.new) (E.faults err.old) (E.faults err.new) result }
 {
     match load(alloc, text) {
-        Ok(script) => show_script(alloc, &script, out, err),
+        Ok(script) => show_accepted(alloc, verb, &script, out, err),
         Err(LoadFault::Refused(refusal)) => show_refusal(alloc, refusal, out, err),
         Err(LoadFault::Memory) => 8,
     }

@@ -1,7 +1,7 @@
 ghost use Rattle.std.specs.Prelude.{◌≡◌, ◌≢◌, ◌<◌, ◌≤◌, ◌⊎◌, map, string_bytes, List, ℕ};
 ghost use Rattle.mono_syntax.specs.declared.refusal.Refusal.{Refusal};
 ghost use Rattle.mono_io.specs.Faults.{Rose};
-ghost use Rattle.mono_cli.specs.Words.{file_of};
+ghost use Rattle.mono_cli.specs.Words.{file_of, asked};
 ghost use Rattle.mono_cli.specs.Commands.{IsAnswer};
 ghost use Rattle.mono_cli.specs.Answer.{refused};
 ghost use Rattle.load_script.specs.Phases.{IsFirstRefusal};
@@ -10,7 +10,7 @@ ghost use Rattle.mono_cli.specs.Showing.{Shows, ShowsAll};
 use crate::refusals::show_refusal;
 use crate::run::show_text;
 use crate::show::show_line;
-use crate::words::file_of;
+use crate::words::{asked, file_of};
 use mono_io::{Shelf, ShelfFault, Sink};
 use mono_tree::{Place, Reason, Refusal};
 use std::alloc::Global;
@@ -29,7 +29,7 @@ fn answer<H: Shelf, K: Sink, E: Sink>(
     out: &mut K,
     err: &mut E,
 ) -> u8
-    ensures { Shows (λ a. IsAnswer (file_of (map (λ w. string_bytes w) words.now)) (H.told shelf.old) (H.faults shelf.old) (H.faults shelf.new) a)
+    ensures { Shows (λ a. IsAnswer (asked (map (λ w. string_bytes w) words.now)) (file_of (map (λ w. string_bytes w) words.now)) (H.told shelf.old) (H.faults shelf.old) (H.faults shelf.new) a)
         (K.told out.old) (K.told out.new) (K.faults out.old) (K.faults out.new)
         (E.told err.old) (E.told err.new) (E.faults err.old) (E.faults err.new) result }
 {
@@ -42,7 +42,7 @@ fn answer<H: Shelf, K: Sink, E: Sink>(
         );
     };
     match shelf.fetch(alloc, file, LIMIT) {
-        Ok(bytes) => show_text(alloc, bytes.as_slice(), out, err),
+        Ok(bytes) => show_text(alloc, asked(words), bytes.as_slice(), out, err),
         Err(ShelfFault::TooLong) => show_refusal(alloc, TOO_LONG, out, err),
         Err(ShelfFault::Failed) => show_line(6, "error: script not fetched\n", out, err),
         Err(ShelfFault::Memory) => 8,
@@ -50,9 +50,10 @@ fn answer<H: Shelf, K: Sink, E: Sink>(
 }
 
 /// Does what a command asks for, on one host thread, and gives its status: the words after the program's name come with
-/// the shelf that has the script and the sinks for output and for the err line. The command is `step FILE`.
+/// the shelf that has the script and the sinks for output and for the err line. The command is `step FILE`, which runs the
+/// script, or `show FILE`, which prints it.
 ///
-/// The status is 0 for a run that came to its end, 1 for a refused script, 2 for words that are no command, 3 for a blame,
+/// The status is 0 for a run that came to its end and for a script that is printed, 1 for a refused script, 2 for words that are no command, 3 for a blame,
 /// 4 for another error of the run, 5 for a limit, 6 for a fetch that failed, 7 for a put that failed, and 8 where there
 /// was no memory.
 pub fn plain_main<H: Shelf, K: Sink, E: Sink>(
@@ -63,8 +64,9 @@ pub fn plain_main<H: Shelf, K: Sink, E: Sink>(
     err: &mut E,
 ) -> u8
     // What is put is the answer of the language's rules to the script's bytes, or a part of it. The answer is a refusal
-    // exactly where the bytes have one; else it is what their run in the seed's order shows, and every run of them is safe.
-    ensures answers { Shows (λ a. IsAnswer (file_of (map (λ w. string_bytes w) words.now)) (H.told shelf.old) (H.faults shelf.old) (H.faults shelf.new) a)
+    // exactly where the bytes have one; else it is what their run in the seed's order shows, and every run of them is safe;
+    // or, for `show`, their script's text, which reads back.
+    ensures answers { Shows (λ a. IsAnswer (asked (map (λ w. string_bytes w) words.now)) (file_of (map (λ w. string_bytes w) words.now)) (H.told shelf.old) (H.faults shelf.old) (H.faults shelf.new) a)
         (K.told out.old) (K.told out.new) (K.faults out.old) (K.faults out.new)
         (E.told err.old) (E.told err.new) (E.faults err.old) (E.faults err.new) result }
 
@@ -77,13 +79,13 @@ pub fn plain_main<H: Shelf, K: Sink, E: Sink>(
         result ≡ 1 → (r : Refusal) × IsFirstRefusal text r }
 
     // A status from 0 to 6 says that all of the answer was put.
-    ensures whole { result ≤ 6 → ShowsAll (λ a. IsAnswer (file_of (map (λ w. string_bytes w) words.now)) (H.told shelf.old) (H.faults shelf.old) (H.faults shelf.new) a)
+    ensures whole { result ≤ 6 → ShowsAll (λ a. IsAnswer (asked (map (λ w. string_bytes w) words.now)) (file_of (map (λ w. string_bytes w) words.now)) (H.told shelf.old) (H.faults shelf.old) (H.faults shelf.new) a)
         (K.told out.old) (K.told out.new) (E.told err.old) (E.told err.new) result }
 
     // Where no count of faults rose all of the answer was put, unless there was no memory.
     ensures complete { (Rose (H.faults shelf.old) (H.faults shelf.new) → ⊥) → (Rose (K.faults out.old) (K.faults out.new) → ⊥) →
         (Rose (E.faults err.old) (E.faults err.new) → ⊥) → result ≢ 8 →
-        ShowsAll (λ a. IsAnswer (file_of (map (λ w. string_bytes w) words.now)) (H.told shelf.old) (H.faults shelf.old) (H.faults shelf.new) a)
+        ShowsAll (λ a. IsAnswer (asked (map (λ w. string_bytes w) words.now)) (file_of (map (λ w. string_bytes w) words.now)) (H.told shelf.old) (H.faults shelf.old) (H.faults shelf.new) a)
         (K.told out.old) (K.told out.new) (E.told err.old) (E.told err.new) result }
 
     // When the other statuses come.

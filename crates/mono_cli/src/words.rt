@@ -1,20 +1,55 @@
 ghost use Rattle.std.specs.Prelude.{◌≡◌, map, string_bytes};
 ghost use Rattle.std.specs.Option.{option_copied};
-ghost use Rattle.mono_cli.specs.Words.{file_of, is_file};
+ghost use Rattle.mono_cli.specs.Words.{verb_of, file_of, is_file, asked};
 
-/// The file of a command line `step FILE`.
+/// What a command does with a script.
+#[derive(Clone, Copy, Debug, PartialEq, Eq)]
+pub enum Verb {
+    /// Runs it in the order of a seed.
+    Step,
+    /// Prints it.
+    Show,
+}
+
+fn verb_of(word: &str) -> Option<Verb>
+    ensures { result ≡ verb_of word.now }
+{
+    match word {
+        "step" => Some(Verb::Step),
+        "show" => Some(Verb::Show),
+        _ => None,
+    }
+}
+
+/// The file of a command line `step FILE` or `show FILE`.
 pub fn file_of(words: &[String]) -> Option<&str>
     ensures { option_copied result ≡ file_of (map (λ w. string_bytes w) words.now) }
 {
     match words {
-        [command, name] => {
-            if command.as_str() == "step" && is_file(name.as_str()) {
-                Some(name.as_str())
-            } else {
-                None
+        [command, name] => match verb_of(command.as_str()) {
+            None => None,
+            Some(_) => {
+                if is_file(name.as_str()) {
+                    Some(name.as_str())
+                } else {
+                    None
+                }
             }
-        }
+        },
         _ => None,
+    }
+}
+
+/// What a command line asks for.
+pub fn asked(words: &[String]) -> Verb
+    ensures { result ≡ asked (map (λ w. string_bytes w) words.now) }
+{
+    match words {
+        [] => Verb::Step,
+        [command, ..] => match verb_of(command.as_str()) {
+            None => Verb::Step,
+            Some(verb) => verb,
+        },
     }
 }
 

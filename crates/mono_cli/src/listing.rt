@@ -1,0 +1,67 @@
+ghost use Rattle.std.specs.Prelude.{◌≡◌, ◌<◌, ◌≤◌, ℕ, List, Option, [], length};
+ghost use Rattle.mono_io.specs.Puts.{Puts};
+ghost use Rattle.tree_print.specs.Reading.{IsGrammatical};
+ghost use Rattle.mono_cli.specs.Scripts.{IsListing};
+ghost use Rattle.mono_cli.specs.Showing.{IsShown, Shows};
+
+use crate::render::put_piece;
+use mono_io::{Sink, SinkFault};
+use mono_tree::Script;
+use std::alloc::Global;
+use tree_print::print_script;
+
+/// The position behind the line that begins here.
+fn line_end(text: &[u8], from: usize) -> usize
+    requires { from < length text.now }
+    ensures further { from < result }
+    ensures within { result ≤ length text.now }
+{
+    let mut end = from;
+    while end < text.len() {
+        let byte = text[end];
+        end += 1;
+        if byte == b'\n' {
+            return end;
+        }
+    }
+    end
+}
+
+/// Puts a text line by line.
+fn put_each_line<K: Sink>(text: &[u8], out: &mut K) -> Result<(), SinkFault>
+    ensures { Puts result (K.told out.old) (K.told out.new) (K.faults out.old) (K.faults out.new) text.now }
+{
+    let mut at = 0;
+    while at < text.len() {
+        let end = line_end(text, at);
+        if let Err(fault) = put_piece(&text[at..end], out) {
+            return Err(fault);
+        }
+        at = end;
+    }
+    Ok(())
+}
+
+/// Puts a text on out line by line, and gives the status; nothing is for err.
+fn show_lines<K: Sink>(text: &[u8], out: &mut K) -> u8
+    ensures { (x : Option (List ℕ)) (e : ℕ) → IsShown (record { status = 0; out = text.now; err = [] })
+        (K.told out.old) (K.told out.new) (K.faults out.old) (K.faults out.new) x x e e result }
+{
+    match put_each_line(text, out) {
+        Ok(()) => 0,
+        Err(SinkFault::Failed) => 7,
+        Err(SinkFault::Memory) => 8,
+    }
+}
+
+/// Shows a script's text.
+pub fn show_listing<K: Sink>(alloc: Global, script: &Script, out: &mut K) -> u8
+    requires { IsGrammatical script.now }
+    ensures { (x : Option (List ℕ)) (e : ℕ) → Shows (λ a. IsListing script.now a)
+        (K.told out.old) (K.told out.new) (K.faults out.old) (K.faults out.new) x x e e result }
+{
+    let Ok(text) = print_script(alloc, script) else {
+        return 8;
+    };
+    show_lines(text.as_bytes(), out)
+}
