@@ -1,4 +1,13 @@
+ghost use Rattle.std.specs.Prelude.{◌≤◌, ◌^◌, IfSome};
+
+use cast_calculus::Settings;
 use std::alloc::{AllocError, Global};
+
+const MOST_FUEL: u64 = 1_099_511_627_776;
+
+const MOST_HEAP: u64 = 4_194_304;
+
+const MOST_PRINT: u64 = 1_048_576;
 
 /// A field of the object at an address, and what it is to hold: its recorded type and its value.
 #[derive(Drop)]
@@ -8,11 +17,14 @@ pub struct Wanted {
     pub holds: String,
 }
 
-/// A case: a script, the fields that it leaves, and its end.
+/// A case: a script, the limits of its run, the fields that it leaves, and its end.
 #[derive(Drop)]
 pub struct Case {
     pub name: String,
     pub script: String,
+    pub fuel: u64,
+    pub heap: u64,
+    pub print: u64,
     pub cells: Vec<Wanted>,
     pub end: String,
     /// Each of its lines could be read.
@@ -25,6 +37,9 @@ impl Case {
         Ok(Case {
             name: String::from_str(alloc, name)?,
             script: String::new(alloc),
+            fuel: 10_000,
+            heap: 1_000,
+            print: 1_000,
             cells: Vec::new(alloc),
             end: String::from_str(alloc, "done")?,
             is_read: true,
@@ -37,9 +52,44 @@ impl Case {
             "script" => self.push_line(value)?,
             "cell" => self.push_cell(alloc, value)?,
             "end" => self.end = String::from_str(alloc, value)?,
-            _ => self.is_read = false,
+            _ => self.set_limit(key, value),
         }
         Ok(())
+    }
+
+    /// The limits of the run, where each is one that a run may have.
+    pub fn settings(&self) -> Option<Settings>
+        ensures some { IfSome result (λ s. 1 ≤ s.fuel) }
+        ensures most { IfSome result (λ s. s.fuel ≤ 2 ^ 40) }
+    {
+        if self.fuel < 1 || self.fuel > MOST_FUEL {
+            return None;
+        }
+        if self.heap < 1 || self.heap > MOST_HEAP {
+            return None;
+        }
+        if self.print < 1 || self.print > MOST_PRINT {
+            return None;
+        }
+        Some(Settings {
+            fuel: self.fuel,
+            heap: self.heap as u32,
+            print: self.print as u32,
+        })
+    }
+
+    /// Takes in a limit.
+    fn set_limit(&mut self, key: &str, value: &str) {
+        let Ok(number) = value.parse::<u64>() else {
+            self.is_read = false;
+            return;
+        };
+        match key {
+            "fuel" => self.fuel = number,
+            "heap" => self.heap = number,
+            "print" => self.print = number,
+            _ => self.is_read = false,
+        }
     }
 
     fn push_line(&mut self, line: &str) -> Result<(), AllocError> {

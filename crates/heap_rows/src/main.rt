@@ -1,7 +1,9 @@
-//! Runs the scripts of `cases.txt` on the cast calculus, step by step, and looks at the heap that they leave. For each case
-//! goes out a line: that the fields named in the case have the recorded types and values that it wants and the run its
-//! end, or how they differ.
+//! Runs the scripts of `cases.txt` on the cast calculus, step by step and with the limits of each case, and looks at the heap
+//! that they leave. For each case goes out a line: that the fields named in the case have the recorded types and values
+//! that it wants, and which end the run has; or how they differ from what the case wants.
 #![tactic(auto)]
+
+ghost use Rattle.std.specs.Prelude.{◌≤◌, ◌^◌};
 
 mod case;
 mod showing;
@@ -14,17 +16,14 @@ use showing::{cell_text, end_text};
 use std::alloc::{AllocError, Global};
 use std::{fs, io};
 
-const SETTINGS: Settings = Settings {
-    fuel: 10_000,
-    heap: 1_000,
-    print: 1_000,
-};
-
 const LONGEST: usize = 1_048_576;
 
-/// The configuration that a script ends in.
-fn ended(alloc: Global, script: &CastScript) -> Result<Config, AllocError> {
-    let mut config = Config::new(alloc, script, SETTINGS)?;
+/// The configuration that a script ends in, with these limits; a run of more than 20,000 steps is left where it then is.
+fn ended(alloc: Global, script: &CastScript, settings: Settings) -> Result<Config, AllocError>
+    requires some { 1 ≤ settings.fuel }
+    requires most { settings.fuel ≤ 2 ^ 40 }
+{
+    let mut config = Config::new(alloc, script, settings)?;
     for _ in 0..20_000 {
         if !runnable(&config, 0) {
             return Ok(config);
@@ -34,11 +33,11 @@ fn ended(alloc: Global, script: &CastScript) -> Result<Config, AllocError> {
     Ok(config)
 }
 
-/// How a configuration differs from what a case wants; empty where it doesn't.
+/// How a configuration and its end differ from what a case wants; empty where they don't.
 fn differences(
     alloc: Global,
-    script: &CastScript,
     config: &Config,
+    end: &str,
     case: &Case,
 ) -> Result<String, AllocError> {
     let mut text = String::new(alloc);
@@ -51,12 +50,34 @@ fn differences(
             text.push_str(line.as_str())?;
         }
     }
-    let end = end_text(alloc, script, observe(config).end)?;
-    if end.as_str() != case.end.as_str() {
+    if end != case.end.as_str() {
         let line = format!(in alloc; " end: {end};")?;
         text.push_str(line.as_str())?;
     }
     Ok(text)
+}
+
+/// Runs a script with the limits of a case, and says whether it came out as wanted.
+fn report_run(
+    rt: &HostRuntime,
+    script: &CastScript,
+    settings: Settings,
+    case: &Case,
+) -> io::Result<()>
+    requires some { 1 ≤ settings.fuel }
+    requires most { settings.fuel ≤ 2 ^ 40 }
+{
+    let alloc = rt.alloc();
+    let name = case.name.as_str();
+    let config = ended(alloc, script, settings)?;
+    let end = end_text(alloc, script, observe(&config).end)?;
+    let end = end.as_str();
+    let text = differences(alloc, &config, end, case)?;
+    if text.as_str().is_empty() {
+        println!(rt; "{name}: ok, {end}")
+    } else {
+        println!(rt; "{name}:{text}")
+    }
 }
 
 /// Runs a case and says whether it came out as wanted.
@@ -67,16 +88,11 @@ fn report(rt: &HostRuntime, case: &Case) -> io::Result<()> {
     if !case.is_read || bytes.len() > LONGEST {
         return println!(rt; "{name}: not a case");
     }
+    let Some(settings) = case.settings() else {
+        return println!(rt; "{name}: no such limits");
+    };
     match load(alloc, bytes) {
-        Ok(script) => {
-            let config = ended(alloc, &script)?;
-            let text = differences(alloc, &script, &config, case)?;
-            if text.as_str().is_empty() {
-                println!(rt; "{name}: ok")
-            } else {
-                println!(rt; "{name}:{text}")
-            }
-        }
+        Ok(script) => report_run(rt, &script, settings, case),
         Err(LoadFault::Refused(_)) => println!(rt; "{name}: refused"),
         Err(LoadFault::Memory) => println!(rt; "{name}: no memory"),
     }

@@ -38,7 +38,7 @@ pub fn cell_text(
     format!(in alloc; "{ty} = {value}")
 }
 
-/// The end of a run: `done`, `blame L:C`, or another word.
+/// The end of a run: `done`, `blame L:C`, `limit: W` for three of the limits, or other words.
 pub fn end_text(
     alloc: Global,
     script: &CastScript,
@@ -54,6 +54,9 @@ pub fn end_text(
             }
             None => String::from_str(alloc, "blame"),
         },
+        Some(End::Fuel) => String::from_str(alloc, "limit: fuel"),
+        Some(End::HeapFull) => String::from_str(alloc, "limit: heap"),
+        Some(End::PrintFull) => String::from_str(alloc, "limit: print"),
         Some(_) => String::from_str(alloc, "another end"),
         None => String::from_str(alloc, "no end"),
     }
