@@ -1,5 +1,5 @@
 -- The text of a script that the grammar gives reads back.
-use Rattle.std.proofs.Common.{◌≡◌, ℕ, List}
+use Rattle.std.proofs.Common.{ℕ, List}
 use Rattle.std.specs.Str.{IsUtf8}
 use Rattle.mono_syntax.specs.declared.tree.Script.{Script}
 use Rattle.spelled_tokens.specs.SpelledTokens.{all_spelled}

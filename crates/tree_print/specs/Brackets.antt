@@ -8,7 +8,6 @@ use Rattle.mono_syntax.specs.Expr as expr
 use Rattle.mono_syntax.specs.Expr.{Expr, Exprs, no_exprs, more_exprs}
 use Rattle.spelled_tokens.specs.declared.token.Mark.{Mark}
 use Rattle.spelled_tokens.specs.declared.token.Mark.TheVariants as mark
-use Rattle.spelled_tokens.specs.declared.token.What.{What}
 use Rattle.spelled_tokens.specs.declared.token.What.TheVariants as what
 use Rattle.token_lines.specs.declared.printed.Printed.{Printed}
 use Rattle.token_lines.specs.declared.printed.Printed.TheVariants.{Minus, Plain}

@@ -1,5 +1,5 @@
 -- Scripts that the grammar gives, and texts that read back as a script.
-use Rattle.std.specs.Prelude.{◌≡◌, ℕ, List, chars}
+use Rattle.std.specs.Prelude.{ℕ, List, chars}
 use Rattle.std.specs.Str.{IsUtf8}
 use Rattle.mono_syntax.specs.declared.tree.Script.{Script}
 use Rattle.py_lexer.specs.declared.token.Token.{Token}
