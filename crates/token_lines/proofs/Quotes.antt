@@ -92,15 +92,15 @@ byte_encoded c rest =
     elim (cases_lt c 128) as (λ _. Goal) [
       | inl low ↦ elim (quoting c) as (λ _. Goal) [
         | inl e ↦
-          ap (λ l. quoted (l ++ rest)) (encode_ascii c low) ∙ quoted_by c rest (92 ∷ e.letter ∷ []) e.text
-          ∙ sym (ap (λ l. encode_utf8_all l ++ quoted rest) e.text ∙ ap (λ l. l ++ quoted rest) (pair_encoded e.letter e.small))
+            ap (λ l. quoted (l ++ rest)) (encode_ascii c low) ∙ quoted_by c rest (92 ∷ e.letter ∷ []) e.text
+            ∙ sym (ap (λ l. encode_utf8_all l ++ quoted rest) e.text ∙ ap (λ l. l ++ quoted rest) (pair_encoded e.letter e.small))
         | inr k ↦ ap (λ l. quoted (l ++ rest)) (encode_ascii c low) ∙ quoted_by c rest (c ∷ []) k.text
-          ∙ sym (ap (λ l. encode_utf8_all l ++ quoted rest) k.text ∙ ap (λ l. l ++ quoted rest) (one_encoded c ∙ encode_ascii c low))
+            ∙ sym (ap (λ l. encode_utf8_all l ++ quoted rest) k.text ∙ ap (λ l. l ++ quoted rest) (one_encoded c ∙ encode_ascii c low))
       ]
       | inr high ↦ elim (quoting c) as (λ _. Goal) [
         | inl e ↦ absurd (omega (arith, e.low))
         | inr k ↦ high_kept (encode_utf8 c) rest (λ k l. high_encoded c k high l)
-          ∙ sym (ap (λ l. encode_utf8_all l ++ quoted rest) k.text ∙ ap (λ l. l ++ quoted rest) (one_encoded c))
+            ∙ sym (ap (λ l. encode_utf8_all l ++ quoted rest) k.text ∙ ap (λ l. l ++ quoted rest) (one_encoded c))
       ]
     ]
 
@@ -117,8 +117,8 @@ scalars_quoted (c ∷ cs) h =
     let more = scalars_quoted cs both.1 in
     elim (quoting c) as (λ _. all_scalars (quoted (c ∷ cs)) ≡ true) [
       | inl e ↦
-        ap all_scalars (quoted_by c cs (92 ∷ e.letter ∷ []) e.text)
-        ∙ and_from (scalar e.letter) (all_scalars (quoted cs)) (low_scalar e.letter (omega (arith, e.small))) more
+          ap all_scalars (quoted_by c cs (92 ∷ e.letter ∷ []) e.text)
+          ∙ and_from (scalar e.letter) (all_scalars (quoted cs)) (low_scalar e.letter (omega (arith, e.small))) more
       | inr k ↦ ap all_scalars (quoted_by c cs (c ∷ []) k.text) ∙ and_from (scalar c) (all_scalars (quoted cs)) both.0 more
     ]
 
@@ -220,8 +220,8 @@ quoted_close (c ∷ cs) u h =
     elim (quoting c) as (λ _. at_close false 34 (quoted (c ∷ cs) ++ 34 ∷ u) ≡ Some u) [
       | inl e ↦ ap (λ l. at_close false 34 (l ++ 34 ∷ u)) (quoted_by c cs (92 ∷ e.letter ∷ []) e.text) ∙ close_escaped e.letter (quoted cs ++ 34 ∷ u) e.visible ∙ more
       | inr k ↦
-        ap (λ l. at_close false 34 (l ++ 34 ∷ u)) (quoted_by c cs (c ∷ []) k.text)
-        ∙ close_kept c (quoted cs ++ 34 ∷ u) (held_visible c both.0 k.no_feed) k.no_quote k.no_slash ∙ more
+          ap (λ l. at_close false 34 (l ++ 34 ∷ u)) (quoted_by c cs (c ∷ []) k.text)
+          ∙ close_kept c (quoted cs ++ 34 ∷ u) (held_visible c both.0 k.no_feed) k.no_quote k.no_slash ∙ more
     ]
 
 -- and no control character stands there
@@ -234,13 +234,13 @@ inside_visible s (c ∷ cs) h =
     let both = and_parts (may_hold c) (list_all may_hold cs) h in
     elim (quoting c) as (λ _. first_control s (quoted (c ∷ cs) ++ 34 ∷ []) ≡ None) [
       | inl e ↦
-        ap (λ l. first_control s (l ++ 34 ∷ [])) (quoted_by c cs (92 ∷ e.letter ∷ []) e.text)
-        ∙ control_passed (behind_one s 92) e.letter (quoted cs ++ 34 ∷ []) e.visible
-        ∙ inside_visible (behind_one (behind_one s 92) e.letter) cs both.1
+          ap (λ l. first_control s (l ++ 34 ∷ [])) (quoted_by c cs (92 ∷ e.letter ∷ []) e.text)
+          ∙ control_passed (behind_one s 92) e.letter (quoted cs ++ 34 ∷ []) e.visible
+          ∙ inside_visible (behind_one (behind_one s 92) e.letter) cs both.1
       | inr k ↦
-        ap (λ l. first_control s (l ++ 34 ∷ [])) (quoted_by c cs (c ∷ []) k.text)
-        ∙ control_passed s c (quoted cs ++ 34 ∷ []) (held_visible c both.0 k.no_feed)
-        ∙ inside_visible (behind_one s c) cs both.1
+          ap (λ l. first_control s (l ++ 34 ∷ [])) (quoted_by c cs (c ∷ []) k.text)
+          ∙ control_passed s c (quoted cs ++ 34 ∷ []) (held_visible c both.0 k.no_feed)
+          ∙ inside_visible (behind_one s c) cs both.1
     ]
 
 pub quoted_visible : (s : Spot) (cs : List ℕ) → list_all may_hold cs ≡ true → first_control s (34 ∷ (quoted cs ++ 34 ∷ [])) ≡ None

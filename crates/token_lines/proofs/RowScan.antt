@@ -114,7 +114,7 @@ module _ (all rest levels : List ℕ) (ws : List What) (u : IsUtf8 rest) (go : G
   row_end z st s before r j a =
       let none = no_opens st.opens r.count in
       let line : AtLine levels (ended_state st) =
-          record { closed = none; blocks = r.blocks; begun = ap (λ os. is_open os && st.inside) none; apart = refl; no_tab = refl } in
+      record { closed = none; blocks = r.blocks; begun = ap (λ os. is_open os && st.inside) none; apart = refl; no_tab = refl } in
       reads_end all rest st s (what.Mark mark.Newline ∷ []) ws (ap (λ l. whats (all_spelled all l)) (end_is st s r.begun none))
       (go (ended_state st) (behind s (10 ∷ [])) (before ++ 10 ∷ []) line (stands_low all before (10 ∷ []) rest s refl a) refl)
 
@@ -127,11 +127,11 @@ module _ (all rest levels : List ℕ) (ws : List What) (u : IsUtf8 rest) (go : G
       let behind_ = tail (shape_of t) ts rest in
       let f = tail_follows (shape_of t) ts rest w in
       let next : InRow (opened_by n (what_of t)) levels (spelled_state st s i.sort (chars (text_of t))) =
-          record {
-            begun = refl;
-            count = ap (λ l. length (brackets st.opens (piece i.sort l) s)) i.letters ∙ i.opens st.opens s ∙ ap (λ m. opened_by m (what_of t)) opens;
-            blocks = blocks;
-          } in
+      record {
+        begun = refl;
+        count = ap (λ l. length (brackets st.opens (piece i.sort l) s)) i.letters ∙ i.opens st.opens s ∙ ap (λ m. opened_by m (what_of t)) opens;
+        blocks = blocks;
+      } in
       reads_token all before behind_ st s t ds (row_whats ts ws) i a (tail_utf8 (shape_of t) ts rest w u) f j begun dents
       (more (spelled_state st s i.sort (chars (text_of t))) (behind s (chars (text_of t))) (before ++ text_of t) next (i.joins (chars behind_) f) (stands_on all before (text_of t) behind_ s i.utf8 a))
 

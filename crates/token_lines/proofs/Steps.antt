@@ -87,15 +87,15 @@ reads_token all before rest st s t ds ws i a u f j begun d r =
     let P : List ℕ → Type 0 = λ l. Reads all (spelled_state st s i.sort l) (behind s l) (chars rest) ws in
     let Q : List ℕ → Type 0 = λ l. (spell l (token i.sort w s)).what ≡ what_of t in
     let refusal : step_refusal st s i.sort w (chars rest) ≡ None =
-        i.spelled.refusal st s w (chars rest) ∙ ap (λ o. or_else o (own_refusal i.sort st.joined s w (chars rest))) begun ∙ i.faultless st.joined s (chars rest) j f in
+    i.spelled.refusal st s w (chars rest) ∙ ap (λ o. or_else o (own_refusal i.sort st.joined s w (chars rest))) begun ∙ i.faultless st.joined s (chars rest) j f in
     let here : (spell all (token i.sort w s)).what ≡ what_of t = subst Q (sym a.parts) (i.spells before rest s a.utf8 u a.offset) in
     let added : whats (all_spelled all (step_tokens st s i.sort w)) ≡ ds ++ (what_of t ∷ []) =
-        ap (λ l. whats (all_spelled all l)) (i.spelled.tokens st s w) ∙ whats_append all (line_dents st s) (token i.sort w s ∷ [])
-        ∙ ap (λ l. l ++ ((spell all (token i.sort w s)).what ∷ [])) d ∙ ap (λ z. ds ++ (z ∷ [])) here in
+    ap (λ l. whats (all_spelled all l)) (i.spelled.tokens st s w) ∙ whats_append all (line_dents st s) (token i.sort w s ∷ [])
+    ∙ ap (λ l. l ++ ((spell all (token i.sort w s)).what ∷ [])) d ∙ ap (λ z. ds ++ (z ∷ [])) here in
     let whole : Reads all st s (chars (text_of t ++ rest)) ((ds ++ (what_of t ∷ [])) ++ ws) =
-        reads_piece all st s (chars (text_of t ++ rest)) w (chars rest) i.sort (ds ++ (what_of t ∷ [])) ws
-        (chars-append (text_of t) rest i.utf8 ∙ ap (λ l. l ++ chars rest) i.letters)
-        (i.is_piece (chars rest) f) refusal added (spelled_state st s i.sort w) (i.spelled.next st s w) (subst P i.letters r) in
+    reads_piece all st s (chars (text_of t ++ rest)) w (chars rest) i.sort (ds ++ (what_of t ∷ [])) ws
+    (chars-append (text_of t) rest i.utf8 ∙ ap (λ l. l ++ chars rest) i.letters)
+    (i.is_piece (chars rest) f) refusal added (spelled_state st s i.sort w) (i.spelled.next st s w) (subst P i.letters r) in
     let R : List What → Type 0 = λ l. Reads all st s (chars (text_of t ++ rest)) l in
     subst R (append_assoc ds (what_of t ∷ []) ws) whole
 

@@ -16,7 +16,7 @@ returns-in-Err g c =
     let here = whole_is text at end on c.line_end-end.ensures.within in
     subst
     (λ (t : List ℕ).
-      Puts (Err c.in-Err.fault) (g.K.Sink.told c.args.out.now) (g.K.Sink.told c.put_piece.new.out) (g.K.Sink.faults c.args.out.now) (g.K.Sink.faults c.put_piece.new.out) t) here
+    Puts (Err c.in-Err.fault) (g.K.Sink.told c.args.out.now) (g.K.Sink.told c.put_piece.new.out) (g.K.Sink.faults c.args.out.now) (g.K.Sink.faults c.put_piece.new.out) t) here
     (puts_then (Err c.in-Err.fault) _ (g.K.Sink.told c.loop-at.out) _ _ (g.K.Sink.faults c.loop-at.out) _ _ _ j.put j.counts
     (puts_stopped c.in-Err.fault _ _ _ _ (slice_range text at end) (drop end text) c.in-Err.ensures.puts))
 
