@@ -1,6 +1,6 @@
 //! Lines of tokens, as text: how each token is spelled, where a space stands between two, and how lines are indented. Lines come
-//! in, and their text goes out. The contracts say which text it is, and a law says that the text has these tokens by the lexical
-//! rules.
+//! in, and their text goes out. The contracts say which text it is. That the text has these tokens by the lexical rules is a lemma
+//! here, on which the contract of the printing of scripts rests.
 #![tactic(auto)]
 
 mod indent;
