@@ -1,7 +1,7 @@
 #!/usr/bin/env bash
 # Whether reads, writes and casts of objects cost the same in a small heap and in a large one: counts the instructions of
-# 500 of each behind 1,200, 4,800 and 19,200 other objects, and prints what one of them costs, its line's reading with it. The cost in the largest heap
-# is to be at most 1.25 times that in the smallest; else the status is 1.
+# 500 of each behind 1,200, 4,800 and 19,200 other objects, and prints what one of them costs, its line's reading with it.
+# The cost in the largest heap is to be at most 1.25 times that in the smallest; else the status is 1.
 #
 #     bench/heap_growth.sh
 #
@@ -9,18 +9,10 @@
 #
 # An object is found by halving among the addresses of all, so a little growth is to be expected: two steps of the search for
 # each fourfold heap. The numbers are such that no list of the script's lines has to grow among the lines that are counted.
-set -euo pipefail
+source "$(dirname -- "${BASH_SOURCE[0]}")/counting.sh"
 
-root=$(cd -- "$(dirname -- "${BASH_SOURCE[0]}")/.." && pwd -P)
-work=$(mktemp -d)
-trap 'rm -rf -- "$work"' EXIT
 times=500
-most=125    # hundredths
-
-fail() {
-    echo "heap_growth: $1" >&2
-    exit 1
-}
+most=125
 
 # A script with so many objects, half of them made before `p` and half behind it, and then this line so many times.
 script() {
@@ -35,10 +27,8 @@ script() {
 
 # The instructions of the script.
 count() {
-    valgrind --tool=callgrind --callgrind-out-file="$work/counts" --log-file="$work/log" \
-        "$root/crates/mono/out/mono" step "$work/script.py" >"$work/out" 2>"$work/err" ||
-        fail "a script didn't end well: $(head -c 300 "$work/err")"
-    awk '/^(summary|totals):/ { n = $2 } END { print n }' "$work/counts"
+    counted "$root/crates/mono/out/mono" step "$work/script.py" || fail "a script didn't end well: $(head -c 300 "$work/err")"
+    instructions
 }
 
 # What the line costs once, behind so many objects.
@@ -51,15 +41,13 @@ cost() {
     echo $(((with - without) / times))
 }
 
-command -v valgrind >/dev/null || fail "there is no valgrind"
-"$root/mono" step /dev/null || fail "the program wasn't built"
-
-status=0
+ready
+over=0
 for line in 'y = p.x' 'p.x = 2' 'q = cast(Q, p)'; do
     small=$(cost 1200 "$line")
     middle=$(cost 4800 "$line")
     large=$(cost 19200 "$line")
     printf '%-16s %8d %8d %8d instructions behind 1200, 4800 and 19200 objects\n' "$line" "$small" "$middle" "$large"
-    [ $((100 * large)) -le $((most * small)) ] || status=1
+    [ $((100 * large)) -le $((most * small)) ] || over=1
 done
-[ "$status" -eq 0 ] || fail "a cost grows by more than a quarter"
+[ "$over" -eq 0 ] || fail "a cost grows by more than a quarter"
