@@ -5,7 +5,7 @@ use Rattle.mono_syntax.specs.declared.tree.ClassDef.{ClassDef}
 use Rattle.mono_syntax.specs.declared.tree.FuncDef.{FuncDef}
 use Rattle.mono_syntax.specs.declared.tree.Param.{Param}
 use Rattle.mono_syntax.specs.Ann.{Ann}
-use Rattle.mono_syntax.specs.Ty.{Ty, dyn, fun, Tys, no_tys, more_tys}
+use Rattle.mono_syntax.specs.Ty.{Ty, fun, Tys, no_tys, more_tys}
 use Rattle.mono_tree.specs.Meet.{both}
 use Rattle.script_rules.specs.Writes.{WritesAny, ParamTypes, IsFunctionType}
 use Rattle.class_types.specs.Made.{look, any_by, params_by, function_by, names_of_classes, AreOwnTypes}

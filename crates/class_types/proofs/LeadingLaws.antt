@@ -1,6 +1,6 @@
 -- The classes that are marked are those that lead to a class.
-use Rattle.std.proofs.Common.{◌≡◌, ◌∙◌, sym, ap, subst, refl, ℕ, zero, suc, ◌+◌, ◌<◌, ◌≤◌, Bool, true, false, List, [], ◌∷◌, ◌++◌, length, length-set, replicate, map, arith, inl, inr}
-use Rattle.std.specs.Prelude.{◌||◌, ◌⊎◌, Option, Some, None, Contains, slice_get, slice_set, unwrap_or, is_some, bytes_eq, if◌then◌else◌}
+use Rattle.std.proofs.Common.{◌≡◌, ◌∙◌, sym, ap, subst, refl, ℕ, zero, suc, ◌+◌, ◌<◌, ◌≤◌, Bool, true, false, List, [], ◌∷◌, ◌++◌, length, length-set, replicate, arith, inl, inr}
+use Rattle.std.specs.Prelude.{◌||◌, ◌⊎◌, Option, Some, None, slice_get, slice_set, unwrap_or, is_some, bytes_eq, if◌then◌else◌}
 use Rattle.std.proofs.lemmas.Bool.{cases_eq}
 use Rattle.std.proofs.lemmas.Option.{slice_get-get_or}
 use Rattle.std.proofs.lemmas.Slice.Eq.{bytes_eq-Decides}
@@ -12,7 +12,7 @@ use Rattle.class_types.specs.FoundFaults.{first_from, found}
 use Rattle.class_types.specs.Leading.{marked_at, is_marked, word_fault, recursive_at, leads_now, put_mark, mark, mark_round, unmarked, AreLeading}
 use Rattle.class_types.specs.Made.{place_from, place_in, names_of_classes}
 use Rattle.class_types.specs.Recursion.{Leads, here, through, field_names}
-use Rattle.class_types.proofs.Gets.{some_is, none_some, set-same, set-other, get-within}
+use Rattle.class_types.proofs.Gets.{some_is, none_some, set-other, get-within}
 use Rattle.class_types.proofs.MadeLaws.{place-of}
 use Rattle.class_types.proofs.FoundLaws.{first-append}
 use Rattle.class_types.proofs.OrderLaws.{In, in-left, in-right, in-cases, in-contains, contains-in, first-least, first-none}

@@ -1,5 +1,5 @@
 -- The types that are made are those that annotations write.
-use Rattle.std.proofs.Common.{◌≡◌, ◌∙◌, sym, ap, subst, refl, ℕ, zero, suc, ◌+◌, ◌<◌, ◌≤◌, Bool, true, false, List, [], ◌∷◌, length, map, arith}
+use Rattle.std.proofs.Common.{◌≡◌, ◌∙◌, sym, ap, refl, ℕ, suc, ◌+◌, Bool, true, false, List, [], ◌∷◌, map, arith}
 use Rattle.std.specs.Prelude.{Option, Some, None, bytes_eq, slice_get, option_and_then, if◌then◌else◌}
 use Rattle.std.specs.Option.{option_map}
 use Rattle.std.specs.Ordering.{nat_cmp, is_gt}
@@ -7,15 +7,14 @@ use Rattle.std.specs.Cmp.Lexicographic.{slice_cmp}
 use Rattle.std.proofs.lemmas.Option.{slice_get-map}
 use Rattle.mono_syntax.specs.declared.tree.ClassDef.{ClassDef}
 use Rattle.mono_syntax.specs.declared.tree.FieldDef.{FieldDef}
-use Rattle.mono_syntax.specs.declared.leaf.Word.{Word}
 use Rattle.mono_syntax.specs.Ann.{Ann, ann, Anns, no_anns, more_anns}
 use Rattle.mono_syntax.specs.Ann as form
-use Rattle.mono_syntax.specs.Ty.{Ty, dyn, int, bool, str, nil, fun, obj, Tys, no_tys, more_tys, Fields, no_fields, more_fields, ty_size, tys_size, fields_size}
+use Rattle.mono_syntax.specs.Ty.{Ty, fun, Tys, more_tys, Fields, no_fields, more_fields, ty_size, fields_size}
 use Rattle.mono_tree.specs.Meet.{both}
 use Rattle.script_rules.specs.Definitions.{class_named}
-use Rattle.script_rules.specs.Writes.{Writes, writes_dyn, writes_int, writes_bool, writes_str, writes_nil, writes_class, writes_fun, WriteAll, write_none, write_more, Declares, declares_none, declares_more, IsClassType, put_field, in_order}
-use Rattle.class_types.specs.Made.{place_from, place_in, known_at, look, type_by, types_by, fields_by, class_by, object_of, names_of_classes, AreSettled}
-use Rattle.class_types.proofs.Gets.{some_is, none_some, by_option}
+use Rattle.script_rules.specs.Writes.{put_field, in_order}
+use Rattle.class_types.specs.Made.{place_from, place_in, known_at, look, type_by, types_by, fields_by, class_by, object_of, names_of_classes}
+use Rattle.class_types.proofs.Gets.{some_is, none_some}
 use Rattle.class_types.proofs.RoundLaws.{Below, Grows}
 
 -- ---- a whole that is there has its parts

@@ -1,5 +1,5 @@
 -- Sizes that are counted are those of the types that would be made.
-use Rattle.std.proofs.Common.{◌≡◌, ◌∙◌, sym, ap, subst, refl, ℕ, zero, suc, ◌+◌, ◌<◌, ◌≤◌, Bool, true, false, List, [], ◌∷◌, length, map, set, min, max, arith}
+use Rattle.std.proofs.Common.{◌≡◌, ◌∙◌, sym, ap, refl, ℕ, zero, suc, ◌+◌, Bool, true, false, List, [], ◌∷◌, map, min, max, arith}
 use Rattle.std.specs.Prelude.{Option, Some, None, slice_get, slice_set, option_and_then, if◌then◌else◌}
 use Rattle.std.specs.Option.{option_map}
 use Rattle.std.specs.Ordering.{nat_cmp, is_gt}
@@ -11,12 +11,12 @@ use Rattle.mono_syntax.specs.declared.tree.FuncDef.{FuncDef}
 use Rattle.mono_syntax.specs.declared.tree.Param.{Param}
 use Rattle.mono_syntax.specs.Ann.{Ann, ann, Anns, no_anns, more_anns}
 use Rattle.mono_syntax.specs.Ann as form
-use Rattle.mono_syntax.specs.Ty.{Ty, dyn, int, bool, str, nil, fun, obj, Tys, no_tys, more_tys, Fields, no_fields, more_fields}
+use Rattle.mono_syntax.specs.Ty.{Ty, fun, Tys, more_tys, Fields, no_fields, more_fields}
 use Rattle.mono_tree.specs.Meet.{both}
 use Rattle.script_rules.specs.Writes.{put_field, in_order}
 use Rattle.class_types.specs.declared.measure.Size.{Size}
 use Rattle.class_types.specs.Made.{place_in, known_at, look, type_by, types_by, fields_by, class_by, any_by, params_by, function_by, object_of}
-use Rattle.class_types.specs.Measured.{measured, nothing, joined, grown, leaf, size_by, sizes_onto, fields_onto, class_size_by, any_size_by, params_onto, function_size_by}
+use Rattle.class_types.specs.Measured.{measured, joined, grown, size_by, sizes_onto, fields_onto, class_size_by, any_size_by, params_onto, function_size_by}
 use Rattle.class_types.specs.Rounds.{fill, filled, round, unknown}
 use Rattle.class_types.specs.Sizes.{nodes_of, nodes_of_all, nodes_of_fields, depth_of, depth_of_all, depth_of_fields}
 

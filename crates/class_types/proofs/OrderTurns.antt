@@ -1,6 +1,5 @@
 -- Fields that are put in order one after the other.
-use Rattle.std.proofs.Common.{◌≡◌, ◌∙◌, sym, ℕ, zero, suc, ◌+◌, ◌<◌, ◌≤◌, Bool, true, false, List, [], ◌∷◌, ◌++◌, length, take, drop, get_or, refl, ap, arith, add-one}
-use Rattle.std.proofs.lemmas.List.{drop_more, drop_all}
+use Rattle.std.proofs.Common.{◌≡◌, ◌∙◌, sym, ℕ, suc, ◌+◌, ◌≤◌, Bool, true, false, List, [], ◌∷◌, ◌++◌, length, refl, ap, arith, add-one}
 use Rattle.std.specs.Prelude.{if◌then◌else◌}
 use Rattle.std.specs.List.{insert}
 use Rattle.std.specs.Ordering.{nat_cmp, is_gt}
@@ -10,7 +9,6 @@ use Rattle.mono_syntax.specs.Ty.{Ty, Fields, no_fields, more_fields}
 use Rattle.mono_syntax.specs.TyView.{fields}
 use Rattle.script_rules.specs.Writes.{put_field, in_order}
 use Rattle.class_types.specs.Order.{place_for, order_onto}
-use Rattle.class_types.proofs.MadeTurns.{next}
 
 pub place-within : (n : List ℕ) (fs : List Field) → place_for n fs ≤ length fs
 place-within n [] = omega arith

@@ -1,6 +1,6 @@
 -- Fields in order, and types that annotations write.
-use Rattle.std.proofs.Common.{◌≡◌, ◌∙◌, sym, ap, subst, refl, ℕ, zero, suc, ◌+◌, ◌<◌, ◌≤◌, Bool, true, false, List, [], ◌∷◌, ◌++◌, length, map, arith, inl, inr}
-use Rattle.std.specs.Prelude.{◌⊎◌, Option, Some, None, Contains, bytes_eq, if◌then◌else◌}
+use Rattle.std.proofs.Common.{◌≡◌, ◌∙◌, sym, ap, subst, refl, ℕ, ◌+◌, ◌≤◌, Bool, true, false, List, [], ◌∷◌, map, arith, inl, inr}
+use Rattle.std.specs.Prelude.{Some, Contains, bytes_eq, if◌then◌else◌}
 use Rattle.std.specs.List.Sorted.{IsPermutation}
 use Rattle.std.specs.Ordering.{nat_cmp, is_gt, is_eq, ordering_reverse}
 use Rattle.std.specs.Cmp.Lexicographic.{slice_cmp}
@@ -12,9 +12,8 @@ use Rattle.std.proofs.lemmas.Map.Text.{is_eq-slice_cmp}
 use Rattle.std.proofs.lemmas.Slice.Eq.{bytes_eq-Decides}
 use Rattle.mono_syntax.specs.declared.tree.ClassDef.{ClassDef}
 use Rattle.mono_syntax.specs.declared.tree.FieldDef.{FieldDef}
-use Rattle.mono_syntax.specs.Ann.{Ann, ann, Anns, no_anns, more_anns}
-use Rattle.mono_syntax.specs.Ann as form
-use Rattle.mono_syntax.specs.Ty.{Ty, Tys, more_tys, Fields, no_fields, more_fields}
+use Rattle.mono_syntax.specs.Ann.{Ann, Anns}
+use Rattle.mono_syntax.specs.Ty.{Ty, Tys, Fields, no_fields, more_fields}
 use Rattle.mono_tree.specs.FieldNames.{names_of}
 use Rattle.mono_tree.specs.IsType.{IsBefore, AreInOrder, IsType, AreTypes, HaveTypes, tys_count}
 use Rattle.script_rules.specs.Definitions.{class_named}

@@ -1,27 +1,24 @@
 -- A class whose type has a size doesn't lead back to itself.
-use Rattle.std.proofs.Common.{◌≡◌, ◌∙◌, sym, ap, subst, refl, ℕ, zero, suc, ◌+◌, ◌<◌, ◌≤◌, Bool, true, false, List, [], ◌∷◌, ◌++◌, length, map, arith, inl, inr}
-use Rattle.std.specs.Prelude.{◌⊎◌, Option, Some, None, MatchOption, slice_get}
+use Rattle.std.proofs.Common.{◌≡◌, ◌∙◌, sym, ap, subst, refl, ℕ, ◌+◌, ◌<◌, ◌≤◌, Bool, true, List, [], ◌∷◌, length, arith, inl, inr}
+use Rattle.std.specs.Prelude.{Option, Some, None, MatchOption, slice_get}
 use Rattle.std.specs.Option.{option_map}
 use Rattle.std.proofs.lemmas.Option.{slice_get-map}
 use Rattle.std.proofs.lemmas.Bool.{cases_eq}
 use Rattle.mono_syntax.specs.declared.leaf.Place.{Place}
 use Rattle.mono_syntax.specs.declared.leaf.Word.{Word}
 use Rattle.mono_syntax.specs.declared.refusal.Refusal.{Refusal}
-use Rattle.mono_syntax.specs.declared.refusal.Reason.{Reason}
-use Rattle.mono_syntax.specs.declared.refusal.Reason.TheVariants.{RecursiveClass}
 use Rattle.mono_syntax.specs.declared.tree.ClassDef.{ClassDef}
 use Rattle.mono_syntax.specs.declared.tree.FieldDef.{FieldDef}
 use Rattle.mono_syntax.specs.Ann.{Ann, ann, Anns, no_anns, more_anns}
 use Rattle.mono_syntax.specs.Ann as form
-use Rattle.mono_syntax.specs.Ty.{Ty, dyn, fun, obj, Tys, more_tys, Fields, more_fields, ty_size, tys_size, fields_size}
-use Rattle.script_rules.specs.Definitions.{class_named}
+use Rattle.mono_syntax.specs.Ty.{Ty, fun, Tys, more_tys, Fields, more_fields, ty_size, tys_size, fields_size}
 use Rattle.script_rules.specs.Writes.{in_order}
 use Rattle.class_types.specs.declared.measure.Size.{Size}
 use Rattle.class_types.specs.FirstFault.{no_later, IsFirst, IsFaultless}
-use Rattle.class_types.specs.FoundFaults.{first_from, found}
-use Rattle.class_types.specs.Leading.{is_marked, word_fault, recursive_at, AreLeading, LeadsBack, AddsFaults}
+use Rattle.class_types.specs.FoundFaults.{found}
+use Rattle.class_types.specs.Leading.{word_fault, recursive_at, AreLeading, LeadsBack, AddsFaults}
 use Rattle.class_types.specs.Made.{look, place_in, type_by, types_by, fields_by, class_by, object_of, names_of_classes, AreSettled}
-use Rattle.class_types.specs.Measured.{measured, leaf, stray_type, AreMeasured}
+use Rattle.class_types.specs.Measured.{measured, stray_type, AreMeasured}
 use Rattle.class_types.specs.Recursion.{names_in, names_in_all, field_names, Leads, here, through, RecursionFault, IsRecursive}
 use Rattle.class_types.proofs.Gets.{some_is, none_some, get-within}
 use Rattle.class_types.proofs.LeadingLaws.{all_faults, found-all, all-from, all-to, word-from, word-to, class-at, at-class}

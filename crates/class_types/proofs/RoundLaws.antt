@@ -1,11 +1,11 @@
 -- What rounds keep, and what stands when a round gives no class a value.
-use Rattle.std.proofs.Common.{◌≡◌, ◌∙◌, sym, ap, subst, refl, ℕ, zero, suc, ◌+◌, ◌<◌, ◌≤◌, List, [], ◌∷◌, length, length-set, replicate, map, arith, inl, inr}
+use Rattle.std.proofs.Common.{◌≡◌, ◌∙◌, sym, ap, subst, refl, ℕ, zero, suc, ◌+◌, ◌≤◌, List, [], ◌∷◌, length, length-set, replicate, map, arith, inl, inr}
 use Rattle.std.specs.Prelude.{◌⊎◌, Option, Some, None, slice_get, slice_set}
 use Rattle.std.proofs.lemmas.Bool.{cases_eq}
 use Rattle.mono_syntax.specs.declared.tree.ClassDef.{ClassDef}
 use Rattle.class_types.specs.Made.{look, place_in, known_at}
 use Rattle.class_types.specs.Rounds.{Finds, fill, filled, round, unknown, visit_class, visited}
-use Rattle.class_types.proofs.Gets.{some_is, none_some, set-same, set-other, get-within, map-at}
+use Rattle.class_types.proofs.Gets.{some_is, none_some, set-same, set-other, map-at}
 
 -- what the first knows, the second knows
 abbrev pub Below : {A : Type 0} → (List ℕ → Option A) → (List ℕ → Option A) → Type 0

@@ -1,5 +1,5 @@
 -- The faults that are looked for are the faults of size.
-use Rattle.std.proofs.Common.{◌≡◌, ◌∙◌, sym, ap, subst, refl, ℕ, ◌+◌, ◌<◌, ◌≤◌, Bool, true, false, List, [], ◌∷◌, ◌++◌, length, map, min, max, arith, inl, inr}
+use Rattle.std.proofs.Common.{◌≡◌, ◌∙◌, sym, ap, subst, refl, ℕ, ◌<◌, Bool, true, false, List, [], ◌∷◌, ◌++◌, length, min, arith, inl, inr}
 use Rattle.std.specs.Prelude.{◌||◌, nat_lt, ◌⊎◌, Option, Some, None, MatchOption, Contains, slice_get, if◌then◌else◌}
 use Rattle.std.specs.Option.{option_map}
 use Rattle.std.proofs.lemmas.Bool.Decides.{nat_tests}
@@ -13,21 +13,18 @@ use Rattle.mono_syntax.specs.declared.tree.FuncDef.{FuncDef}
 use Rattle.mono_syntax.specs.declared.tree.Item.{Item}
 use Rattle.mono_syntax.specs.declared.tree.Item.TheVariants as item
 use Rattle.mono_syntax.specs.declared.tree.Script.{Script}
-use Rattle.mono_syntax.specs.Ann.{Ann}
 use Rattle.mono_syntax.specs.Ty.{Ty}
 use Rattle.script_rules.specs.Definitions.{classes_of, functions_of, statements_of}
-use Rattle.script_rules.specs.Scoping.{class_list, function_list, main_block}
-use Rattle.script_rules.specs.Writes.{Writes, IsClassType, IsFunctionType}
+use Rattle.script_rules.specs.Scoping.{class_list, function_list}
 use Rattle.class_types.specs.declared.measure.Size.{Size}
-use Rattle.class_types.specs.FirstFault.{no_later, IsFirst, IsFaultless}
+use Rattle.class_types.specs.FirstFault.{IsFirst, IsFaultless}
 use Rattle.class_types.specs.FoundFaults.{first_from, too_large, type_fault, count_fault, wide, wides, part_faults, parts_faults, name_fault, own_faults, items_faults, script_faults}
-use Rattle.class_types.specs.Made.{look, type_by, class_by, function_by, names_of_classes, AreSettled}
+use Rattle.class_types.specs.Made.{look, type_by, class_by, function_by, names_of_classes}
 use Rattle.class_types.specs.Measured.{measured, size_by, class_size_by, function_size_by, AreMeasured}
 use Rattle.class_types.specs.SizeFaults.{SizeFault, large_class, large_function, large_type, many_fields, many_parameters, wide_callable, many_arguments, crowded_function, crowded_main}
 use Rattle.class_types.specs.Sizes.{nodes_of, depth_of, IsTooLarge}
 use Rattle.class_types.specs.SourceParts.{Counted, Part, annotation, arguments, place_of, callables, item_parts, parts_of, block_names}
-use Rattle.class_types.proofs.Gets.{some_is, none_some}
-use Rattle.class_types.proofs.MadeLaws.{map-parts}
+use Rattle.class_types.proofs.Gets.{none_some}
 use Rattle.class_types.proofs.MeasureLaws.{look-map, size-type, class-size, function-size}
 use Rattle.class_types.proofs.OrderLaws.{In, in-left, in-right, in-cases, in-contains, contains-in, first-least, first-none}
 use Rattle.class_types.proofs.FunctionLaws.{function-is, is-function}

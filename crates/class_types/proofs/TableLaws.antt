@@ -1,25 +1,22 @@
 -- What a table of types keeps, and what its positions say.
-use Rattle.std.proofs.Common.{◌≡◌, ◌∙◌, sym, ap, subst, refl, ℕ, zero, suc, List, [], ◌∷◌, ◌++◌, map, arith}
+use Rattle.std.proofs.Common.{◌≡◌, ◌∙◌, sym, ap, subst, refl, ℕ, zero, suc, List, [], ◌∷◌, map}
 use Rattle.std.specs.Prelude.{Option, Some, None, IfSome, IfNone, slice_get}
 use Rattle.std.proofs.lemmas.Option.{slice_get-map}
 use Rattle.std.specs.Option.{option_map}
 use Rattle.mono_syntax.specs.declared.leaf.TyAt.{TyAt}
 use Rattle.mono_syntax.specs.declared.tree.ClassDef.{ClassDef}
 use Rattle.mono_syntax.specs.declared.tree.FuncDef.{FuncDef}
-use Rattle.mono_syntax.specs.declared.tree.Param.{Param}
 use Rattle.mono_syntax.specs.declared.tree.Script.{Script}
 use Rattle.mono_syntax.specs.Ann.{Ann}
-use Rattle.mono_syntax.specs.Ty.{Ty, dyn, fun, Tys, no_tys, more_tys}
-use Rattle.mono_tree.specs.Meet.{both}
+use Rattle.mono_syntax.specs.Ty.{Ty}
 use Rattle.script_rules.specs.Scoping.{AreDistinct, StandsAt, ClassesStand, class_list}
-use Rattle.script_rules.specs.Writes.{Writes, WritesAny, IsClassType, ParamTypes, IsFunctionType}
+use Rattle.script_rules.specs.Writes.{Writes, WritesAny, IsClassType, IsFunctionType}
 use Rattle.class_types.specs.declared.table.ClassTypes.{ClassTypes}
-use Rattle.class_types.specs.Holds.{Holds, Extends}
+use Rattle.class_types.specs.Holds.{Holds}
 use Rattle.class_types.specs.Known.{HaveTypes, Begins, base_types, StandTypes}
-use Rattle.class_types.specs.Made.{look, type_by, any_by, params_by, function_by, class_by, names_of_classes, AreOwnTypes}
+use Rattle.class_types.specs.Made.{look, type_by, any_by, function_by, class_by, names_of_classes, AreOwnTypes}
 use Rattle.class_types.specs.Placed.{StandAt}
 use Rattle.class_types.proofs.Gets.{some_is, none_some}
-use Rattle.class_types.proofs.MadeLaws.{both-parts}
 use Rattle.class_types.proofs.PlaceLaws.{begins-get, begins-trans}
 use Rattle.class_types.proofs.FunctionLaws.{any-is, is-any, function-is, is-function}
 use Rattle.class_types.proofs.WritesLaws.{made-writes, writes-made, made-class, class-made}

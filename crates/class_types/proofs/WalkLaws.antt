@@ -1,5 +1,5 @@
 -- Steps of the walk through expressions and statements.
-use Rattle.std.proofs.Common.{◌≡◌, ◌∙◌, sym, ap, refl, ℕ, ◌+◌, List, [], ◌∷◌, ◌++◌, length, arith}
+use Rattle.std.proofs.Common.{◌≡◌, refl, List, [], ◌∷◌, length, arith}
 use Rattle.mono_syntax.specs.Expr.{Expr}
 use Rattle.mono_syntax.specs.ExprView.{exprs}
 use Rattle.class_types.specs.SourceParts.{count_of_exprs}

@@ -1,5 +1,5 @@
 -- Which of several faults a script is refused for: the first by line, then by column, then in the order of the reasons.
-use Rattle.std.specs.Prelude.{ℕ, Bool, IsTrue, ◌&&◌, ◌||◌, ◌==◌, nat_lt, nat_le, List, [], ◌∷◌, Option, Some, None, if◌then◌else◌}
+use Rattle.std.specs.Prelude.{ℕ, Bool, IsTrue, ◌&&◌, ◌||◌, ◌==◌, nat_lt, nat_le, Option, Some, None, if◌then◌else◌}
 use Rattle.mono_syntax.specs.declared.leaf.Place.{Place}
 use Rattle.mono_syntax.specs.declared.refusal.Reason.{Reason}
 use Rattle.mono_syntax.specs.declared.refusal.Reason.TheVariants.{BadChar, Tab, BadDedent, OpenBracket, BadName, BadNumber, BadString, Syntax, UnknownName, Twice, Misused, RecursiveClass, Inconsistent, NoField, Arity, NotCallable, TooManyTypes, TypeTooLarge, TooManyFields, TooManyParameters, TooManyArguments, TooManyNames, TooManyFunctions, TooManyClasses, TooManySites, TooLong, NotBuilt}

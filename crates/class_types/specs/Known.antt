@@ -1,5 +1,5 @@
 -- The types of a script's classes, and the types that are written so far.
-use Rattle.std.specs.Prelude.{◌≡◌, ℕ, List, [], ◌∷◌, ◌++◌, Option, Some, None, map}
+use Rattle.std.specs.Prelude.{◌≡◌, List, [], ◌∷◌, ◌++◌}
 use Rattle.mono_syntax.specs.declared.leaf.TyAt.{TyAt}
 use Rattle.mono_syntax.specs.declared.tree.ClassDef.{ClassDef}
 use Rattle.mono_syntax.specs.Ty.{Ty, dyn, int, bool, str, nil}

@@ -1,5 +1,5 @@
 -- Types by their positions in a list.
-use Rattle.std.specs.Prelude.{◌≡◌, ℕ, List, [], ◌∷◌, Option, Some, None, slice_get}
+use Rattle.std.specs.Prelude.{◌≡◌, List, [], ◌∷◌, Option, Some, slice_get}
 use Rattle.mono_syntax.specs.declared.leaf.TyAt.{TyAt}
 use Rattle.mono_syntax.specs.Ty.{Ty}
 

@@ -6,7 +6,7 @@ use Rattle.mono_syntax.specs.declared.tree.ClassDef.{ClassDef}
 use Rattle.mono_syntax.specs.declared.tree.FieldDef.{FieldDef}
 use Rattle.mono_syntax.specs.declared.refusal.Reason.{Reason}
 use Rattle.mono_syntax.specs.declared.refusal.Reason.TheVariants.{RecursiveClass}
-use Rattle.mono_syntax.specs.Ann.{Ann, ann, Form, class, fun, Anns, no_anns, more_anns}
+use Rattle.mono_syntax.specs.Ann.{Ann, ann, class, fun, Anns, no_anns, more_anns}
 use Rattle.script_rules.specs.Definitions.{class_named}
 
 -- the names that stand in an annotation, those inside Callable too

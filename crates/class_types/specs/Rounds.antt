@@ -1,6 +1,6 @@
 -- How the values of classes are found: in rounds, in which each class that has no value yet gets the one that its fields
 -- give, where they give one.
-use Rattle.std.specs.Prelude.{◌≡◌, ℕ, ◌+◌, List, [], ◌∷◌, Option, Some, None, slice_get, slice_set}
+use Rattle.std.specs.Prelude.{ℕ, ◌+◌, List, [], ◌∷◌, Option, Some, None, slice_get, slice_set}
 use Rattle.mono_syntax.specs.declared.tree.ClassDef.{ClassDef}
 use Rattle.class_types.specs.Made.{look}
 

@@ -1,6 +1,6 @@
 -- How large a type is.
 use Rattle.std.specs.Prelude.{ℕ, ◌+◌, ◌<◌, ◌⊎◌, max}
-use Rattle.mono_syntax.specs.Ty.{Ty, dyn, int, bool, str, nil, fun, obj, Tys, no_tys, more_tys, Fields, no_fields, more_fields}
+use Rattle.mono_syntax.specs.Ty.{Ty, fun, obj, Tys, no_tys, more_tys, Fields, no_fields, more_fields}
 
 -- a leaf is one node, every other type one and the sum of its parts
 abbrev mutual

@@ -11,7 +11,7 @@ use Rattle.mono_syntax.specs.declared.tree.Item.TheVariants as item
 use Rattle.mono_syntax.specs.Ann.{Ann, ann}
 use Rattle.mono_syntax.specs.Ann as form
 use Rattle.mono_syntax.specs.Expr.{Expr, local, number, call, join, no_exprs, more_exprs}
-use Rattle.mono_syntax.specs.Stmt.{Stmt, pass, print, assign, start}
+use Rattle.mono_syntax.specs.Stmt.{pass, print, assign, start}
 use Rattle.name_scope.specs.FoundFaults.{name_faults, first_of_all}
 
 abbrev place : ℕ → ℕ → Place

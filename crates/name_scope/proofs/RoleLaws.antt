@@ -1,6 +1,6 @@
 -- What the code keeps of a name says where it stands and what it does there.
-use Rattle.std.proofs.Common.{◌≡◌, ℕ, ◌⊎◌, inl, inr, Bool, true, false, cond, ◌||◌, not, List, [], ◌∷◌, ◌++◌, Option, Some, None, refl, sym, ◌∙◌, ap, subst}
-use Rattle.std.specs.Prelude.{bytes_eq, is_some, IsTrue}
+use Rattle.std.proofs.Common.{◌≡◌, ℕ, ◌⊎◌, inl, inr, Bool, true, false, cond, ◌||◌, List, [], ◌∷◌, ◌++◌, Option, Some, None, refl, sym, ◌∙◌, ap}
+use Rattle.std.specs.Prelude.{bytes_eq, is_some}
 use Rattle.std.specs.Option.{option_or}
 use Rattle.std.proofs.lemmas.Bool.{or_cases}
 use Rattle.mono_list.proofs.Cases.{split, split_option, some_is}
@@ -11,7 +11,7 @@ use Rattle.name_scope.specs.declared.occurrence.Role.{Role}
 use Rattle.name_scope.specs.declared.occurrence.Role.TheVariants as role
 use Rattle.name_scope.specs.declared.roles.Roles.{Roles}
 use Rattle.name_scope.specs.NameRoles.{no_roles, alone, together, roles_of}
-use Rattle.name_scope.specs.Rules.{gives_name, is_field, is_start, is_start_end, is_class, is_definition, Stands, StandsBehind, FirstDefined}
+use Rattle.name_scope.specs.Rules.{gives_name, is_field, is_start, is_start_end, is_class, is_definition, Stands, FirstDefined}
 use Rattle.name_scope.proofs.FaultOrder.{In, in_Contains, Contains_in}
 
 or_true : (a : Bool) → (a || true) ≡ true

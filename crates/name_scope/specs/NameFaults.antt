@@ -1,5 +1,5 @@
 -- What can be wrong with the names of a script.
-use Rattle.std.specs.Prelude.{◌≡◌, List, ◌∷◌, IsTrue, Contains}
+use Rattle.std.specs.Prelude.{◌≡◌, List, IsTrue, Contains}
 use Rattle.mono_syntax.specs.declared.leaf.Place.{Place}
 use Rattle.mono_syntax.specs.declared.refusal.Reason.{Reason}
 use Rattle.mono_syntax.specs.declared.refusal.Reason.TheVariants.{UnknownName, Twice, Misused}

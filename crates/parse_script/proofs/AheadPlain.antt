@@ -1,10 +1,9 @@
 -- A step forwards in statements that an expression begins.
-use Rattle.std.proofs.Common.{◌≡◌, ◌⊎◌, inl, inr, ℕ, suc, ◌+◌, ◌≤◌, ◌<◌, Bool, true, false, List, [], ◌∷◌, ◌++◌, length, Option, Some, None, nat_lt, refl, sym, ◌∙◌, ap, subst, arith}
+use Rattle.std.proofs.Common.{◌≡◌, ◌⊎◌, inl, inr, ℕ, suc, ◌+◌, ◌≤◌, ◌<◌, Bool, true, false, List, [], ◌∷◌, ◌++◌, Option, Some, None, nat_lt, refl, sym, ◌∙◌, ap, subst, arith}
 use Rattle.std.proofs.lemmas.Bool.{ltb-true, lt-ltb}
 use Rattle.mono_syntax.specs.declared.leaf.Place.{Place}
 use Rattle.mono_syntax.specs.declared.leaf.Word.{Word}
 use Rattle.mono_syntax.specs.declared.tree.Item.{Item}
-use Rattle.mono_syntax.specs.Ann.{Ann}
 use Rattle.mono_syntax.specs.Expr as expr
 use Rattle.mono_syntax.specs.Expr.{Expr}
 use Rattle.mono_syntax.specs.Stmt as stmt
@@ -13,15 +12,14 @@ use Rattle.spelled_tokens.specs.declared.token.Mark.TheVariants as mark
 use Rattle.spelled_tokens.specs.declared.token.Spelled.{Spelled}
 use Rattle.spelled_tokens.specs.declared.token.What.{What}
 use Rattle.spelled_tokens.specs.declared.token.What.TheVariants as what
-use Rattle.spelled_tokens.specs.SpelledTokens.{tok, sign}
+use Rattle.spelled_tokens.specs.SpelledTokens.{tok}
 use Rattle.parse_expr.specs.declared.machine.Frame.{Frame}
 use Rattle.parse_expr.specs.declared.machine.Held.{Held}
 use Rattle.parse_expr.specs.declared.machine.Mode.{Mode}
 use Rattle.parse_expr.specs.declared.machine.Mode.TheVariants as mode
 use Rattle.parse_expr.specs.declared.machine.TypeMode.{TypeMode}
 use Rattle.parse_expr.specs.declared.machine.TypeMode.TheVariants as type_mode
-use Rattle.parse_expr.specs.declared.machine.Weighed.{Weighed}
-use Rattle.parse_expr.specs.Goes.{Goes, stay, go}
+use Rattle.parse_expr.specs.Goes.{Goes}
 use Rattle.parse_expr.specs.Reading.{step, finish, held, go_on, field_at, if_some}
 use Rattle.parse_expr.specs.TypeReading.{type_step, type_finish, type_behind}
 use Rattle.parse_expr.specs.Types.{word}
@@ -31,11 +29,11 @@ use Rattle.parse_script.specs.declared.stage.Stage.{Stage}
 use Rattle.parse_script.specs.declared.stage.Stage.TheVariants as stage
 use Rattle.parse_script.specs.declared.stage.Use.{Use}
 use Rattle.parse_script.specs.declared.stage.Use.TheVariants as for_
-use Rattle.parse_script.specs.Reading.{added, added_stage, inside_step, inside, plain_found, plain_next, plain_on, plain_held, plain_at, plain_step, dotted_step, attribute_step, target_at, target_step, named_at, named_step, assigning_at, assigning_step, typed_end, typed_next, typed_step, returning_at, returning_step}
+use Rattle.parse_script.specs.Reading.{added_stage, inside_step, inside, plain_found, plain_next, plain_on, plain_held, plain_at, plain_step, dotted_step, attribute_step, target_at, target_step, named_at, named_step, assigning_at, assigning_step, typed_end, typed_next, typed_step, returning_at, returning_step}
 use Rattle.parse_script.specs.Endings.{ending_of}
 use Rattle.parse_script.specs.Statements.{heaviest}
-use Rattle.parse_script.proofs.Ahead.{On, on_at, unnext, unname, ExprOn, ExprEnd, unexpr, TypeOn, TypeEnd, untype, mark_stops, inside_on}
-use Rattle.parse_script.proofs.Rest.{Rest, RestAt, Next, NextName, Ends, NextExpr, NextType, RestLine, RestInside, RestValue, RestTarget, RestPlain, RestAttribute, RestAssigning, RestTyped, RestNamed}
+use Rattle.parse_script.proofs.Ahead.{On, on_at, unnext, unname, ExprEnd, unexpr, untype, mark_stops, inside_on}
+use Rattle.parse_script.proofs.Rest.{Rest, Next, NextName, Ends, RestLine, RestInside, RestValue, RestPlain, RestAttribute, RestAssigning, RestTyped, RestNamed}
 use Rattle.parse_script.proofs.Steps.{none_some, some_is, nil_cons, head_is, tail_is}
 
 -- a step on

@@ -1,9 +1,8 @@
 -- A step forwards where a statement begins, and behind a block.
-use Rattle.std.proofs.Common.{◌≡◌, ◌⊎◌, inl, inr, ℕ, suc, ◌+◌, ◌≤◌, ◌<◌, Bool, true, false, List, [], ◌∷◌, ◌++◌, length, Option, Some, None, nat_lt, refl, sym, ◌∙◌, ap, subst, arith, append_assoc}
+use Rattle.std.proofs.Common.{◌≡◌, ◌⊎◌, inl, inr, ℕ, suc, ◌+◌, Bool, true, List, [], ◌∷◌, ◌++◌, length, Option, Some, None, refl, sym, ◌∙◌, ap, subst, arith, append_assoc}
 use Rattle.std.proofs.lemmas.Bool.{lt-ltb}
 use Rattle.std.proofs.lemmas.List.{append-nil}
 use Rattle.mono_syntax.specs.declared.leaf.Place.{Place}
-use Rattle.mono_syntax.specs.declared.leaf.Word.{Word}
 use Rattle.mono_syntax.specs.declared.tree.Branch.{Branch}
 use Rattle.mono_syntax.specs.declared.tree.ClassDef.{ClassDef}
 use Rattle.mono_syntax.specs.declared.tree.FuncDef.{FuncDef}
@@ -26,12 +25,8 @@ use Rattle.spelled_tokens.specs.SpelledTokens.{tok, sign}
 use Rattle.parse_expr.specs.declared.machine.Held.{Held}
 use Rattle.parse_expr.specs.declared.machine.Mode.{Mode}
 use Rattle.parse_expr.specs.declared.machine.Mode.TheVariants as mode
-use Rattle.parse_expr.specs.declared.machine.TypeMode.TheVariants as type_mode
-use Rattle.parse_expr.specs.Goes.{Goes, stay, go}
-use Rattle.parse_expr.specs.Grammar.{IsExpr}
-use Rattle.parse_expr.specs.Reading.{step, finish, held}
-use Rattle.parse_expr.specs.Types.{IsType, word}
-use Rattle.parse_expr.proofs.Goes.{goes_nil, goes_cons}
+use Rattle.parse_expr.specs.Reading.{step, held}
+use Rattle.parse_expr.specs.Types.{word}
 use Rattle.parse_script.specs.declared.stage.Around.{Around}
 use Rattle.parse_script.specs.declared.stage.ClassStage.TheVariants as class_stage
 use Rattle.parse_script.specs.declared.stage.DefHead.{DefHead}
@@ -40,7 +35,6 @@ use Rattle.parse_script.specs.declared.stage.Floor.{Floor}
 use Rattle.parse_script.specs.declared.stage.Floor.TheVariants as floor
 use Rattle.parse_script.specs.declared.stage.Head.{Head}
 use Rattle.parse_script.specs.declared.stage.Head.TheVariants as head
-use Rattle.parse_script.specs.declared.stage.Listed.TheVariants as listed
 use Rattle.parse_script.specs.declared.stage.Opened.{Opened}
 use Rattle.parse_script.specs.declared.stage.Opened.TheVariants as opened
 use Rattle.parse_script.specs.declared.stage.Stage.{Stage}
@@ -49,18 +43,18 @@ use Rattle.parse_script.specs.declared.stage.Use.TheVariants as for_
 use Rattle.parse_script.specs.Definitions.{DerivesDef}
 use Rattle.parse_script.specs.Definitions as defs
 use Rattle.parse_script.specs.Endings.{ending_of}
-use Rattle.parse_script.specs.Reading.{around, top, is_def, floor_depth, depth, added_to, added, added_stage, entered, func_def, left_block, left, stage_if, inside, plain_on, start_mark, start_at, start_step, behind_at, behind_step, plain_next}
+use Rattle.parse_script.specs.Reading.{around, top, is_def, floor_depth, depth, added_to, added, added_stage, func_def, left, stage_if, inside, plain_on, start_mark, start_at, start_step, behind_at, behind_step}
 use Rattle.parse_script.specs.Statements as s
 use Rattle.parse_script.specs.Statements.{heaviest, deepest, branch, DerivesStmt, DerivesTail, DerivesBlock, DerivesStmts, indented}
-use Rattle.parse_script.proofs.Ahead.{On, on_at, unexpr, grammar_expr}
-use Rattle.parse_script.proofs.AheadPlain.{PlainOn, PlainIs, TargetHere, plain_is, plain_on_ahead}
+use Rattle.parse_script.proofs.Ahead.{On, on_at, grammar_expr}
+use Rattle.parse_script.proofs.AheadPlain.{PlainIs, plain_is, plain_on_ahead}
 use Rattle.parse_script.proofs.BackStart.{opens, enters, parts}
 use Rattle.parse_script.proofs.ClassExact.{class_goes}
 use Rattle.parse_script.proofs.Collect.{AnyStmts, any_stmts, unroll, unroll_body}
 use Rattle.parse_script.proofs.DefExact.{def_goes, head_tokens}
 use Rattle.parse_script.proofs.Live.{named_goes}
-use Rattle.parse_script.proofs.Rest.{RestStart, statement, closes, ends, class, def, RestLeft, while_left, branch_left, else_left, def_left, RestBehind, behind, Rest, RestAt, Next, NextExpr, RestLine, RestHead, RestColon, RestUse, RestInside, RestPlain, RestTarget, RestNamed}
-use Rattle.parse_script.proofs.Steps.{none_some, some_is, nil_cons, head_is, tail_is}
+use Rattle.parse_script.proofs.Rest.{RestStart, statement, closes, ends, class, def, RestLeft, while_left, branch_left, else_left, def_left, RestBehind, behind, RestAt, RestLine, RestHead, RestUse, RestInside, RestPlain}
+use Rattle.parse_script.proofs.Steps.{none_some, some_is, head_is, tail_is}
 use Rattle.parse_expr.proofs.Readings.{type_goes, postfix_goes}
 
 -- the first token of these is this one

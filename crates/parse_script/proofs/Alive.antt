@@ -1,8 +1,6 @@
 -- Each stage that is reached can go on to the end of a script.
-use Rattle.std.proofs.Common.{◌≡◌, ◌⊎◌, inl, inr, ℕ, suc, ◌+◌, ◌≤◌, List, [], ◌∷◌, ◌++◌, length, Option, Some, None, refl, sym, ◌∙◌, ap, subst, arith, append_assoc}
-use Rattle.mono_syntax.specs.declared.leaf.Place.{Place}
+use Rattle.std.proofs.Common.{inl, inr, ℕ, ◌+◌, List, [], ◌∷◌, ◌++◌, length, Some, None, refl, arith}
 use Rattle.mono_syntax.specs.declared.leaf.Word.{Word}
-use Rattle.mono_syntax.specs.declared.tree.Branch.{Branch}
 use Rattle.mono_syntax.specs.declared.tree.Item.{Item}
 use Rattle.mono_syntax.specs.declared.tree.Item.TheVariants as item
 use Rattle.mono_syntax.specs.Ann.{Ann}
@@ -36,13 +34,13 @@ use Rattle.parse_script.specs.declared.stage.Stage.{Stage}
 use Rattle.parse_script.specs.declared.stage.Stage.TheVariants as stage
 use Rattle.parse_script.specs.declared.stage.Use.{Use}
 use Rattle.parse_script.specs.declared.stage.Use.TheVariants as for_
-use Rattle.parse_script.specs.Reading.{around, top, is_def, floor_depth, added_to, added, entered, func_def}
+use Rattle.parse_script.specs.Reading.{around, top, floor_depth, added_to, added, entered, func_def}
 use Rattle.parse_script.specs.Statements as s
 use Rattle.parse_script.specs.Statements.{heaviest, branch}
 use Rattle.parse_script.proofs.ClassLive.{class_alive}
 use Rattle.parse_script.proofs.DefLive.{def_alive}
 use Rattle.parse_script.proofs.Live.{Live}
-use Rattle.parse_script.proofs.Rest.{RestStart, statement, closes, ends, RestLeft, while_left, branch_left, else_left, def_left, RestBehind, behind, Rest, RestAt, Next, NextName, NextExpr, NextType, RestLine, RestBlock, RestHead, RestColon, RestUse, RestInside, RestListed, RestListing, RestArgument, RestPlain, RestAttribute}
+use Rattle.parse_script.proofs.Rest.{RestStart, statement, closes, ends, RestLeft, while_left, branch_left, else_left, def_left, behind, Rest, RestAt, Next, NextExpr, NextType, RestLine, RestBlock, RestHead, RestColon, RestUse, RestInside, RestListed, RestListing, RestArgument, RestPlain, RestAttribute}
 use Rattle.parse_script.proofs.Steps.{here, Reached, ReachedType, begins}
 use Rattle.parse_expr.proofs.Readings.{expr_alive, type_alive}
 

@@ -1,5 +1,5 @@
 -- A step backwards: what the next stage still wants, with the token before it, is what this stage wants. Expressions, types and arguments.
-use Rattle.std.proofs.Common.{◌≡◌, ◌⊎◌, inl, inr, ℕ, suc, ◌+◌, ◌≤◌, ◌<◌, max, Bool, true, false, List, [], ◌∷◌, ◌++◌, length, Option, Some, None, nat_lt, refl, sym, ◌∙◌, ap, subst, arith, append_assoc}
+use Rattle.std.proofs.Common.{◌≡◌, ◌⊎◌, inl, inr, ℕ, suc, ◌≤◌, ◌<◌, max, Bool, true, false, List, [], ◌∷◌, ◌++◌, Option, Some, None, nat_lt, refl, sym, ◌∙◌, ap, subst, arith, append_assoc}
 use Rattle.std.proofs.lemmas.Bool.{ltb-true}
 use Rattle.std.proofs.lemmas.List.{append-nil}
 use Rattle.std.proofs.Math.Nat.{max-le}
@@ -9,39 +9,36 @@ use Rattle.mono_syntax.specs.declared.tree.Item.{Item}
 use Rattle.mono_syntax.specs.Ann.{Ann}
 use Rattle.mono_syntax.specs.Expr as expr
 use Rattle.mono_syntax.specs.Expr.{Expr}
-use Rattle.mono_syntax.specs.ExprView.{exprs}
 use Rattle.mono_syntax.specs.Stmt as stmt
 use Rattle.mono_syntax.specs.Stmt.{Stmt}
 use Rattle.spelled_tokens.specs.declared.token.Mark.TheVariants as mark
 use Rattle.spelled_tokens.specs.declared.token.Spelled.{Spelled}
 use Rattle.spelled_tokens.specs.declared.token.What.{What}
 use Rattle.spelled_tokens.specs.declared.token.What.TheVariants as what
-use Rattle.spelled_tokens.specs.SpelledTokens.{tok, sign}
+use Rattle.spelled_tokens.specs.SpelledTokens.{tok}
 use Rattle.parse_expr.specs.declared.machine.Frame.{Frame}
-use Rattle.parse_expr.specs.declared.machine.Held.{Held}
 use Rattle.parse_expr.specs.declared.machine.Mode.{Mode}
 use Rattle.parse_expr.specs.declared.machine.Mode.TheVariants as mode
 use Rattle.parse_expr.specs.declared.machine.TypeMode.{TypeMode}
 use Rattle.parse_expr.specs.declared.machine.TypeMode.TheVariants as type_mode
 use Rattle.parse_expr.specs.declared.machine.Weighed.{Weighed}
 use Rattle.parse_expr.specs.Goes.{Goes, stay, go}
-use Rattle.parse_expr.specs.Grammar.{DerivesArgs, no_args, last_arg, more_args, IsExpr}
+use Rattle.parse_expr.specs.Grammar.{no_args, last_arg, more_args}
 use Rattle.parse_expr.specs.Reading.{step, finish, held}
 use Rattle.parse_expr.specs.TypeReading.{type_step, type_finish}
 use Rattle.parse_expr.specs.Types.{word}
 use Rattle.parse_script.specs.declared.stage.Around.{Around}
-use Rattle.parse_script.specs.declared.stage.Head.TheVariants as head
 use Rattle.parse_script.specs.declared.stage.Listed.{Listed}
 use Rattle.parse_script.specs.declared.stage.Listed.TheVariants as listed
 use Rattle.parse_script.specs.declared.stage.Stage.{Stage}
 use Rattle.parse_script.specs.declared.stage.Stage.TheVariants as stage
 use Rattle.parse_script.specs.declared.stage.Use.{Use}
 use Rattle.parse_script.specs.declared.stage.Use.TheVariants as for_
-use Rattle.parse_script.specs.Reading.{added, added_stage, behind_used, behind_found, inside_next, inside_step, inside, listed_stage, behind_argument, found_argument, argument_next, argument_step, listing_at, listing_step, plain_found, plain_next, plain_on, plain_held, plain_at, plain_step, dotted_step, attribute_step, target_at, target_step, named_at, named_step, assigning_at, assigning_step, typed_end, typed_next, typed_step, returning_at, returning_step}
+use Rattle.parse_script.specs.Reading.{added_stage, behind_used, behind_found, inside_next, inside_step, inside, listed_stage, behind_argument, found_argument, argument_next, argument_step, listing_at, listing_step, plain_found, plain_next, plain_on, plain_held, plain_at, plain_step, dotted_step, attribute_step, target_at, target_step, named_at, named_step, assigning_at, assigning_step, typed_end, typed_next, typed_step, returning_at, returning_step}
 use Rattle.parse_script.specs.Endings.{ending_of}
 use Rattle.parse_script.specs.Statements.{heaviest}
-use Rattle.parse_script.proofs.Live.{Live, held_light, named_goes, named_reached, dot_goes, field_goes, attribute_reached}
-use Rattle.parse_script.proofs.Rest.{Rest, RestAt, Next, NextName, Ends, NextExpr, NextType, RestLine, RestUse, RestInside, RestListed, RestListing, RestArgument, RestValue, RestTarget, RestPlain, RestAttribute, RestStarted, RestAssigning, RestTyped, RestNamed}
+use Rattle.parse_script.proofs.Live.{Live, held_light, named_reached, dot_goes, field_goes, attribute_reached}
+use Rattle.parse_script.proofs.Rest.{Rest, Next, NextName, NextExpr, NextType, RestUse, RestInside, RestListed, RestListing, RestArgument, RestPlain, RestAttribute, RestAssigning, RestTyped, RestNamed}
 use Rattle.parse_script.proofs.Steps.{none_some, some_is, split_option, type_finished, Reached, ReachedType, begins, goes_on, reached_start, reached_more}
 use Rattle.parse_expr.proofs.Readings.{expr_sound}
 

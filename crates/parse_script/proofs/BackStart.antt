@@ -1,9 +1,8 @@
 -- A step backwards where a statement begins, and behind a block: what the next stage still wants is put together to a statement.
-use Rattle.std.proofs.Common.{◌≡◌, ◌⊎◌, inl, inr, ℕ, suc, ◌+◌, ◌≤◌, ◌<◌, Bool, true, false, List, [], ◌∷◌, ◌++◌, length, Option, Some, None, nat_lt, refl, sym, ◌∙◌, ap, subst, arith, append_assoc}
+use Rattle.std.proofs.Common.{◌≡◌, inl, inr, ℕ, suc, ◌+◌, ◌≤◌, ◌<◌, Bool, true, false, List, [], ◌∷◌, ◌++◌, length, Option, Some, None, nat_lt, refl, sym, ◌∙◌, ap, subst, arith, append_assoc}
 use Rattle.std.proofs.lemmas.Bool.{ltb-true}
 use Rattle.std.proofs.lemmas.List.{append-nil}
 use Rattle.mono_syntax.specs.declared.leaf.Place.{Place}
-use Rattle.mono_syntax.specs.declared.leaf.Word.{Word}
 use Rattle.mono_syntax.specs.declared.tree.Branch.{Branch}
 use Rattle.mono_syntax.specs.declared.tree.FuncDef.{FuncDef}
 use Rattle.mono_syntax.specs.declared.tree.Item.{Item}
@@ -23,15 +22,13 @@ use Rattle.spelled_tokens.specs.SpelledTokens.{tok, sign}
 use Rattle.parse_expr.specs.declared.machine.Mode.{Mode}
 use Rattle.parse_expr.specs.declared.machine.Mode.TheVariants as mode
 use Rattle.parse_expr.specs.declared.machine.TypeMode.TheVariants as type_mode
-use Rattle.parse_expr.specs.Goes.{Goes, stay, go}
+use Rattle.parse_expr.specs.Goes.{Goes}
 use Rattle.parse_expr.specs.Grammar.{DerivesArgs, IsExpr}
 use Rattle.parse_expr.specs.Reading.{step, finish, held}
 use Rattle.parse_expr.specs.Types.{word}
 use Rattle.parse_script.specs.declared.stage.Around.{Around}
-use Rattle.parse_script.specs.declared.stage.ClassStage.{ClassStage}
 use Rattle.parse_script.specs.declared.stage.ClassStage.TheVariants as class_stage
 use Rattle.parse_script.specs.declared.stage.DefHead.{DefHead}
-use Rattle.parse_script.specs.declared.stage.DefStage.{DefStage}
 use Rattle.parse_script.specs.declared.stage.DefStage.TheVariants as def_stage
 use Rattle.parse_script.specs.declared.stage.Floor.{Floor}
 use Rattle.parse_script.specs.declared.stage.Floor.TheVariants as floor
@@ -46,16 +43,16 @@ use Rattle.parse_script.specs.declared.stage.Use.TheVariants as for_
 use Rattle.parse_script.specs.Definitions.{DerivesDef}
 use Rattle.parse_script.specs.Definitions as defs
 use Rattle.parse_script.specs.Endings.{ending_of}
-use Rattle.parse_script.specs.Reading.{around, top, is_def, floor_depth, depth, added_to, added, added_stage, entered, func_def, left_block, left, end_at, class_at, def_at, stage_if, inside, plain_on, start_mark, start_at, start_step, behind_at, behind_step, class_stage_of, class_next, def_stage_of, def_next}
+use Rattle.parse_script.specs.Reading.{around, top, is_def, floor_depth, depth, added_to, added, entered, func_def, left, end_at, class_at, def_at, stage_if, inside, plain_on, start_mark, start_at, start_step, behind_at, behind_step}
 use Rattle.parse_script.specs.Statements as s
 use Rattle.parse_script.specs.Statements.{heaviest, deepest, branch, DerivesStmt, DerivesTail, DerivesBlock, DerivesStmts, indented}
-use Rattle.parse_script.proofs.Back.{Sound, sound_at, next_is, plain_back, plain_on_sound}
+use Rattle.parse_script.proofs.Back.{Sound, sound_at, plain_back, plain_on_sound}
 use Rattle.parse_script.proofs.ClassExact.{class_sound}
-use Rattle.parse_script.proofs.Collect.{AnyStmts, nothing, more, some_stmts, Collected, collect, collect_body}
+use Rattle.parse_script.proofs.Collect.{AnyStmts, nothing, more, some_stmts, collect, collect_body}
 use Rattle.parse_script.proofs.DefExact.{def_sound, head_tokens}
-use Rattle.parse_script.proofs.Live.{Live, named_goes, named_reached}
-use Rattle.parse_script.proofs.Rest.{RestStart, statement, closes, ends, class, def, RestLeft, while_left, branch_left, else_left, def_left, RestBehind, behind, Rest, RestAt, Next, NextExpr, RestLine, RestBlock, RestHead, RestColon, RestInside, RestListed, RestListing, RestPlain, RestTyped, RestStarted, RestAssigning, RestNamed, RestClass, RestDef}
-use Rattle.parse_script.proofs.Steps.{none_some, some_is, Reached, begins, reached_start, one}
+use Rattle.parse_script.proofs.Live.{Live, named_goes}
+use Rattle.parse_script.proofs.Rest.{RestStart, statement, closes, ends, class, def, RestLeft, while_left, branch_left, else_left, def_left, RestBehind, behind, Rest, RestAt, RestLine, RestHead, RestColon, RestInside, RestListed, RestPlain, RestTyped, RestAssigning, RestNamed, RestClass, RestDef}
+use Rattle.parse_script.proofs.Steps.{none_some, some_is, begins}
 use Rattle.parse_expr.proofs.Readings.{expr_sound, postfix_sound, type_sound}
 
 -- a statement in front of what is behind it

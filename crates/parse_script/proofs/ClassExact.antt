@@ -1,5 +1,5 @@
 -- The reading of a class goes over exactly the tokens that the grammar has for one, and can always go on.
-use Rattle.std.proofs.Common.{◌≡◌, ◌⊎◌, inl, inr, Bool, true, false, ℕ, ◌≤◌, List, [], ◌∷◌, ◌++◌, Option, Some, None, refl, sym, ◌∙◌, ap, subst, arith, append_assoc}
+use Rattle.std.proofs.Common.{◌≡◌, ◌⊎◌, inl, inr, Bool, true, false, ℕ, List, [], ◌∷◌, ◌++◌, Option, Some, None, refl, sym, ◌∙◌, ap, subst, append_assoc}
 use Rattle.std.proofs.lemmas.List.{append-nil}
 use Rattle.mono_syntax.specs.declared.leaf.Place.{Place}
 use Rattle.mono_syntax.specs.declared.leaf.Word.{Word}
@@ -25,8 +25,8 @@ use Rattle.parse_script.specs.ClassReading.{class_def, field_def, class_word, cl
 use Rattle.parse_script.specs.Definitions.{DerivesField, field, DerivesFields, one_field, more_fields, DerivesClass, no_fields, fields}
 use Rattle.parse_script.specs.Endings.{ending_of}
 use Rattle.parse_script.specs.Statements.{heaviest}
-use Rattle.parse_script.proofs.Steps.{here, none_some, some_is, head_is, split_option, type_finished, one}
-use Rattle.parse_expr.proofs.Readings.{type_goes, type_sound, type_alive}
+use Rattle.parse_script.proofs.Steps.{none_some, some_is, head_is, split_option, type_finished, one}
+use Rattle.parse_expr.proofs.Readings.{type_goes, type_sound}
 
 -- ---- what the grammar has is read
 

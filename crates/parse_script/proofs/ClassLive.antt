@@ -1,5 +1,5 @@
 -- The reading of a class can go on from each stage that is reached.
-use Rattle.std.proofs.Common.{◌≡◌, inl, inr, ℕ, ◌≤◌, List, [], ◌∷◌, ◌++◌, Option, Some, None, refl, sym, ◌∙◌, ap, subst, arith}
+use Rattle.std.proofs.Common.{◌≡◌, inl, inr, List, [], ◌∷◌, ◌++◌, Some, refl, sym, ◌∙◌, ap, subst, arith}
 use Rattle.mono_syntax.specs.declared.leaf.Word.{Word}
 use Rattle.mono_syntax.specs.declared.tree.ClassDef.{ClassDef}
 use Rattle.mono_syntax.specs.declared.tree.FieldDef.{FieldDef}
@@ -9,7 +9,7 @@ use Rattle.spelled_tokens.specs.declared.token.What.TheVariants as what
 use Rattle.spelled_tokens.specs.SpelledTokens.{tok, sign}
 use Rattle.parse_expr.specs.declared.machine.TypeMode.{TypeMode}
 use Rattle.parse_expr.specs.declared.machine.TypeMode.TheVariants as type_mode
-use Rattle.parse_expr.specs.Goes.{Goes, stay, go}
+use Rattle.parse_expr.specs.Goes.{Goes, go}
 use Rattle.parse_expr.specs.TypeReading.{type_step, type_finish}
 use Rattle.parse_expr.proofs.Goes.{then}
 use Rattle.parse_script.specs.declared.stage.ClassStage.{ClassStage}
@@ -17,7 +17,7 @@ use Rattle.parse_script.specs.declared.stage.ClassStage.TheVariants as stage
 use Rattle.parse_script.specs.ClassReading.{class_def, field_def, class_type, class_step}
 use Rattle.parse_script.specs.Endings.{ending_of}
 use Rattle.parse_script.specs.Statements.{heaviest}
-use Rattle.parse_script.proofs.Steps.{here, none_some, some_is, split_option, one, ReachedType, reached_more, reached_start}
+use Rattle.parse_script.proofs.Steps.{here, some_is, split_option, one, ReachedType, reached_more, reached_start}
 use Rattle.parse_script.proofs.ClassExact.{type_go, pass_go, at_name, at_colon, at_line, at_pass, at_pass_line, at_field, at_word, at_body, at_fields, at_field_end}
 use Rattle.parse_expr.proofs.Readings.{type_alive}
 

@@ -1,24 +1,19 @@
 -- The statements of a block, from the stages inside it, and back.
-use Rattle.std.proofs.Common.{◌≡◌, ℕ, suc, ◌+◌, ◌≤◌, Bool, true, List, [], ◌∷◌, ◌++◌, length, refl, sym, ◌∙◌, ap, subst, arith, append_assoc}
+use Rattle.std.proofs.Common.{◌≡◌, ℕ, ◌+◌, Bool, true, List, [], ◌∷◌, ◌++◌, length, refl, sym, ◌∙◌, ap, subst, append_assoc}
 use Rattle.std.proofs.lemmas.List.{append-nil}
 use Rattle.mono_syntax.specs.declared.leaf.Place.{Place}
 use Rattle.mono_syntax.specs.declared.tree.Item.{Item}
 use Rattle.mono_syntax.specs.Stmt.{Stmt}
 use Rattle.spelled_tokens.specs.declared.token.Mark.TheVariants as mark
 use Rattle.spelled_tokens.specs.declared.token.Spelled.{Spelled}
-use Rattle.spelled_tokens.specs.SpelledTokens.{tok, sign}
-use Rattle.parse_script.specs.declared.stage.Around.{Around}
+use Rattle.spelled_tokens.specs.SpelledTokens.{sign}
 use Rattle.parse_script.specs.declared.stage.DefHead.{DefHead}
 use Rattle.parse_script.specs.declared.stage.Floor.{Floor}
 use Rattle.parse_script.specs.declared.stage.Floor.TheVariants as floor
-use Rattle.parse_script.specs.declared.stage.Head.{Head}
-use Rattle.parse_script.specs.declared.stage.Head.TheVariants as head
 use Rattle.parse_script.specs.declared.stage.Opened.{Opened}
-use Rattle.parse_script.specs.declared.stage.Opened.TheVariants as opened
-use Rattle.parse_script.specs.Reading.{around, is_def, floor_depth, depth, added_to, added, entered}
-use Rattle.parse_script.specs.Statements.{DerivesStmt, DerivesStmts, one_stmt, more_stmts, DerivesBlock, indented}
-use Rattle.parse_script.proofs.Rest.{RestStart, statement, closes, RestLeft, while_left, branch_left, else_left, def_left, RestAt, RestHead}
-use Rattle.parse_script.proofs.Steps.{none_some}
+use Rattle.parse_script.specs.Reading.{is_def, floor_depth}
+use Rattle.parse_script.specs.Statements.{DerivesStmt, DerivesStmts, one_stmt, more_stmts}
+use Rattle.parse_script.proofs.Rest.{RestStart, statement, closes, RestLeft}
 
 -- any number of statements
 pub data AnyStmts (inside : Bool) : ℕ → List Spelled → List Stmt → Type 0 where

@@ -1,11 +1,10 @@
 -- The reading of a function's head goes over exactly the tokens that the grammar has for one.
-use Rattle.std.proofs.Common.{◌≡◌, ◌⊎◌, inl, inr, Bool, true, false, ℕ, ◌≤◌, List, [], ◌∷◌, ◌++◌, Option, Some, None, refl, sym, ◌∙◌, ap, subst, arith, append_assoc}
+use Rattle.std.proofs.Common.{◌≡◌, ◌⊎◌, inl, inr, Bool, true, false, ℕ, List, [], ◌∷◌, ◌++◌, Option, Some, None, refl, sym, ◌∙◌, ap, subst, append_assoc}
 use Rattle.std.proofs.lemmas.List.{append-nil}
 use Rattle.mono_syntax.specs.declared.leaf.Place.{Place}
 use Rattle.mono_syntax.specs.declared.leaf.Word.{Word}
 use Rattle.mono_syntax.specs.declared.tree.Param.{Param}
 use Rattle.mono_syntax.specs.Ann.{Ann}
-use Rattle.spelled_tokens.specs.declared.token.Mark.{Mark}
 use Rattle.spelled_tokens.specs.declared.token.Mark.TheVariants as mark
 use Rattle.spelled_tokens.specs.declared.token.Spelled.{Spelled}
 use Rattle.spelled_tokens.specs.declared.token.What.{What}
@@ -16,7 +15,7 @@ use Rattle.parse_expr.specs.declared.machine.TypeMode.TheVariants as type_mode
 use Rattle.parse_expr.specs.declared.machine.Weighed.{Weighed}
 use Rattle.parse_expr.specs.Goes.{Goes, stay, go}
 use Rattle.parse_expr.specs.TypeReading.{type_step, type_finish}
-use Rattle.parse_expr.specs.Types.{IsType, word}
+use Rattle.parse_expr.specs.Types.{word}
 use Rattle.parse_expr.proofs.Goes.{then, goes_nil, goes_cons}
 use Rattle.parse_script.specs.declared.stage.DefHead.{DefHead}
 use Rattle.parse_script.specs.declared.stage.DefStage.{DefStage}
@@ -25,7 +24,7 @@ use Rattle.parse_script.specs.DefReading.{def_head, param, def_word, def_name, d
 use Rattle.parse_script.specs.Definitions.{DerivesParam, bare, typed, DerivesParams, no_params, last_param, more_params, DerivesResult, no_result, result}
 use Rattle.parse_script.specs.Endings.{ending_of}
 use Rattle.parse_script.specs.Statements.{heaviest}
-use Rattle.parse_script.proofs.Steps.{here, none_some, some_is, head_is, split_option, type_finished, one}
+use Rattle.parse_script.proofs.Steps.{none_some, some_is, split_option, type_finished, one}
 use Rattle.parse_expr.proofs.Readings.{type_goes, type_sound}
 
 -- ---- what the grammar has is read

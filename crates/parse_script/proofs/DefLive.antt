@@ -1,5 +1,5 @@
 -- The reading of a function's head can go on from each stage that is reached.
-use Rattle.std.proofs.Common.{◌≡◌, inl, inr, ℕ, ◌≤◌, List, [], ◌∷◌, ◌++◌, Option, Some, None, refl, sym, ◌∙◌, ap, subst, arith}
+use Rattle.std.proofs.Common.{◌≡◌, inl, inr, List, [], ◌∷◌, ◌++◌, Some, None, refl, sym, ◌∙◌, ap, subst, arith}
 use Rattle.mono_syntax.specs.declared.leaf.Word.{Word}
 use Rattle.mono_syntax.specs.declared.tree.Param.{Param}
 use Rattle.spelled_tokens.specs.declared.token.Mark.TheVariants as mark
@@ -9,7 +9,7 @@ use Rattle.spelled_tokens.specs.declared.token.What.TheVariants as what
 use Rattle.spelled_tokens.specs.SpelledTokens.{tok, sign}
 use Rattle.parse_expr.specs.declared.machine.TypeMode.{TypeMode}
 use Rattle.parse_expr.specs.declared.machine.TypeMode.TheVariants as type_mode
-use Rattle.parse_expr.specs.Goes.{Goes, stay, go}
+use Rattle.parse_expr.specs.Goes.{Goes, go}
 use Rattle.parse_expr.specs.TypeReading.{type_step, type_finish}
 use Rattle.parse_expr.proofs.Goes.{then}
 use Rattle.parse_script.specs.declared.stage.DefHead.{DefHead}

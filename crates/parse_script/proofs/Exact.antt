@@ -1,5 +1,5 @@
 -- The reading goes over exactly the tokens of scripts: it ends with their tree, and stops at the first token with which no script begins.
-use Rattle.std.proofs.Common.{◌≡◌, ◌⊎◌, inl, inr, ℕ, suc, ◌+◌, ◌≤◌, ◌<◌, List, [], ◌∷◌, ◌++◌, length, take, drop, Option, Some, None, refl, sym, ◌∙◌, ap, subst, arith, append_assoc}
+use Rattle.std.proofs.Common.{◌≡◌, List, [], ◌∷◌, ◌++◌, None, refl, sym, ◌∙◌, ap, subst, append_assoc}
 use Rattle.std.proofs.lemmas.List.{append-nil}
 use Rattle.mono_syntax.specs.declared.tree.Item.{Item}
 use Rattle.mono_syntax.specs.declared.tree.Item.TheVariants as item
@@ -9,20 +9,18 @@ use Rattle.mono_syntax.specs.Stmt.{Stmt}
 use Rattle.spelled_tokens.specs.declared.token.Mark.TheVariants as mark
 use Rattle.spelled_tokens.specs.declared.token.Spelled.{Spelled}
 use Rattle.spelled_tokens.specs.SpelledTokens.{sign}
-use Rattle.parse_expr.specs.Goes.{Goes, stay, go}
+use Rattle.parse_expr.specs.Goes.{Goes}
 use Rattle.parse_expr.proofs.Goes.{same_end, stuck}
-use Rattle.parse_script.specs.declared.stage.Floor.{Floor}
 use Rattle.parse_script.specs.declared.stage.Floor.TheVariants as floor
 use Rattle.parse_script.specs.declared.stage.Stage.{Stage}
 use Rattle.parse_script.specs.declared.stage.Stage.TheVariants as stage
-use Rattle.parse_script.specs.Reading.{around, top, script_step}
+use Rattle.parse_script.specs.Reading.{top, script_step}
 use Rattle.parse_script.specs.Script as sc
 use Rattle.parse_script.specs.Script.{DerivesItem, DerivesItems, DerivesWhole, script, Begins, OneTree}
 use Rattle.parse_script.proofs.Alive.{alive}
-use Rattle.parse_script.proofs.Rest.{RestStart, statement, closes, ends, class, def, RestLeft, Rest, RestAt}
+use Rattle.parse_script.proofs.Rest.{RestStart, statement, closes, ends, class, def, RestLeft, Rest}
 use Rattle.parse_script.proofs.StepAhead.{goes_ahead, at_end}
 use Rattle.parse_script.proofs.StepSound.{goes_live, goes_back}
-use Rattle.parse_script.proofs.Steps.{none_some}
 
 -- where the reading begins
 abbrev pub start : Stage

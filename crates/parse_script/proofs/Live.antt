@@ -1,18 +1,14 @@
 -- The stages that are reached.
-use Rattle.std.proofs.Common.{◌≡◌, ℕ, suc, ◌+◌, ◌≤◌, ◌<◌, Bool, true, false, List, [], ◌∷◌, ◌++◌, length, Option, Some, None, nat_lt, refl, sym, ◌∙◌, ap, subst, arith}
+use Rattle.std.proofs.Common.{◌≡◌, ℕ, suc, ◌+◌, ◌≤◌, ◌<◌, [], Some, refl, ap, arith}
 use Rattle.std.proofs.lemmas.Bool.{lt-ltb}
 use Rattle.mono_syntax.specs.declared.leaf.Place.{Place}
 use Rattle.mono_syntax.specs.declared.leaf.Word.{Word}
 use Rattle.mono_syntax.specs.Expr as expr
 use Rattle.mono_syntax.specs.Expr.{Expr}
-use Rattle.spelled_tokens.specs.declared.token.Spelled.{Spelled}
 use Rattle.spelled_tokens.specs.declared.token.What.TheVariants as what
 use Rattle.spelled_tokens.specs.SpelledTokens.{tok}
-use Rattle.parse_expr.specs.declared.machine.Mode.{Mode}
 use Rattle.parse_expr.specs.declared.machine.Mode.TheVariants as mode
-use Rattle.parse_expr.specs.Goes.{Goes, stay, go}
 use Rattle.parse_expr.specs.Reading.{step, held, if_some}
-use Rattle.parse_expr.specs.Types.{word}
 use Rattle.parse_script.specs.declared.stage.Stage.{Stage}
 use Rattle.parse_script.specs.declared.stage.Stage.TheVariants as stage
 use Rattle.parse_script.specs.Statements.{heaviest}

@@ -1,5 +1,5 @@
 -- What a stage of the reading still wants, in the grammar's words: the tokens from there to the end of the script, and the script's items.
-use Rattle.std.proofs.Common.{◌≡◌, ◌⊎◌, ℕ, suc, ◌+◌, ◌≤◌, ◌<◌, List, [], ◌∷◌, ◌++◌, length, Option, Some, None}
+use Rattle.std.proofs.Common.{◌≡◌, ◌⊎◌, ℕ, suc, ◌+◌, ◌≤◌, ◌<◌, List, [], ◌∷◌, ◌++◌, length, Some, None}
 use Rattle.mono_syntax.specs.declared.leaf.Place.{Place}
 use Rattle.mono_syntax.specs.declared.leaf.Word.{Word}
 use Rattle.mono_syntax.specs.declared.tree.Branch.{Branch}
@@ -49,7 +49,7 @@ use Rattle.parse_script.specs.declared.stage.Use.TheVariants as for_
 use Rattle.parse_script.specs.ClassReading.{class_step}
 use Rattle.parse_script.specs.DefReading.{def_step}
 use Rattle.parse_script.specs.Definitions.{DerivesClass, DerivesDef}
-use Rattle.parse_script.specs.Reading.{around, top, is_def, floor_depth, depth, added_to, added, entered, func_def, inside}
+use Rattle.parse_script.specs.Reading.{around, top, is_def, floor_depth, added_to, added, entered, func_def}
 use Rattle.parse_script.specs.Statements.{heaviest, branch, DerivesStmt, DerivesTail}
 
 mutual

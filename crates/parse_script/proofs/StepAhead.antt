@@ -1,5 +1,5 @@
 -- One step of the reading forwards, at any stage; and a whole run.
-use Rattle.std.proofs.Common.{◌≡◌, ◌⊎◌, inl, inr, ℕ, List, [], ◌∷◌, ◌++◌, Option, Some, None, refl, sym, ◌∙◌, ap, subst, append_assoc}
+use Rattle.std.proofs.Common.{◌≡◌, inl, inr, ℕ, List, [], ◌∷◌, ◌++◌, None, refl, sym, ◌∙◌, ap, subst, append_assoc}
 use Rattle.mono_syntax.specs.declared.leaf.Place.{Place}
 use Rattle.mono_syntax.specs.declared.leaf.Word.{Word}
 use Rattle.mono_syntax.specs.declared.tree.ClassDef.{ClassDef}
@@ -27,7 +27,6 @@ use Rattle.parse_script.specs.declared.stage.DefStage.{DefStage}
 use Rattle.parse_script.specs.declared.stage.DefStage.TheVariants as def_stage
 use Rattle.parse_script.specs.declared.stage.Floor.{Floor}
 use Rattle.parse_script.specs.declared.stage.Floor.TheVariants as floor
-use Rattle.parse_script.specs.declared.stage.Head.{Head}
 use Rattle.parse_script.specs.declared.stage.Listed.{Listed}
 use Rattle.parse_script.specs.declared.stage.Listed.TheVariants as listed
 use Rattle.parse_script.specs.declared.stage.Opened.{Opened}
@@ -37,16 +36,16 @@ use Rattle.parse_script.specs.declared.stage.Use.{Use}
 use Rattle.parse_script.specs.declared.stage.Use.TheVariants as for_
 use Rattle.parse_script.specs.ClassReading.{class_step}
 use Rattle.parse_script.specs.DefReading.{def_step}
-use Rattle.parse_script.specs.Reading.{around, top, added, added_stage, entered, line_step, head_colon, head_line, head_block, print_word, start_word, class_stage_of, class_next, def_stage_of, def_next, script_step}
-use Rattle.parse_script.proofs.Ahead.{On, on_at, unnext, inside_on, argument_on, listing_on}
+use Rattle.parse_script.specs.Reading.{around, top, entered, line_step, head_colon, head_line, head_block, print_word, start_word, class_stage_of, class_next, def_stage_of, def_next, script_step}
+use Rattle.parse_script.proofs.Ahead.{On, unnext, inside_on, argument_on, listing_on}
 use Rattle.parse_script.proofs.AheadPlain.{plain_ahead, dotted_ahead, target_ahead, named_ahead, typed_ahead, assigning_ahead, returning_ahead}
 use Rattle.parse_script.proofs.AheadStart.{start_on, behind_on}
 use Rattle.parse_script.proofs.ClassLive.{LiveClass}
 use Rattle.parse_script.proofs.DefLive.{LiveDef}
 use Rattle.parse_script.proofs.Live.{Live}
-use Rattle.parse_script.proofs.Rest.{RestStart, statement, closes, ends, class, def, RestLeft, while_left, branch_left, else_left, def_left, RestBehind, behind, Rest, RestAt, Next, NextName, NextExpr, NextType, Ends, RestLine, RestHead, RestUse, RestListed, RestListing, RestArgument, RestPlain, RestTarget, RestValue, RestAttribute, RestNamed, RestClass, RestDef}
+use Rattle.parse_script.proofs.Rest.{RestStart, statement, closes, ends, class, def, RestLeft, while_left, branch_left, else_left, def_left, RestBehind, behind, Rest, RestAt, Next, NextName, NextExpr, NextType, RestUse, RestArgument, RestPlain, RestTarget, RestValue, RestAttribute, RestClass, RestDef}
 use Rattle.parse_script.proofs.StepSound.{step_sound}
-use Rattle.parse_script.proofs.Steps.{none_some, some_is, nil_cons, head_is, tail_is}
+use Rattle.parse_script.proofs.Steps.{none_some, nil_cons, head_is, tail_is}
 
 -- ---- classes and functions
 

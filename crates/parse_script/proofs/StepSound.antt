@@ -1,8 +1,7 @@
 -- One step of the reading, backwards, at any stage; and a whole run.
-use Rattle.std.proofs.Common.{◌≡◌, ℕ, List, [], ◌∷◌, ◌++◌, Option, Some, None, refl, sym, ◌∙◌, ap, subst, append_assoc}
+use Rattle.std.proofs.Common.{◌≡◌, List, [], ◌∷◌, ◌++◌, Some, refl, sym, ◌∙◌, ap}
 use Rattle.mono_syntax.specs.declared.leaf.Word.{Word}
 use Rattle.mono_syntax.specs.declared.tree.Item.{Item}
-use Rattle.mono_syntax.specs.Stmt.{Stmt}
 use Rattle.spelled_tokens.specs.declared.token.Mark.TheVariants as mark
 use Rattle.spelled_tokens.specs.declared.token.Spelled.{Spelled}
 use Rattle.spelled_tokens.specs.declared.token.What.{What}
@@ -19,7 +18,7 @@ use Rattle.parse_script.specs.declared.stage.Stage.{Stage}
 use Rattle.parse_script.specs.declared.stage.Stage.TheVariants as stage
 use Rattle.parse_script.specs.ClassReading.{class_step}
 use Rattle.parse_script.specs.DefReading.{def_step}
-use Rattle.parse_script.specs.Reading.{added_stage, entered, line_step, head_colon, head_line, head_block, print_word, start_word, class_stage_of, class_next, def_stage_of, def_next, script_step}
+use Rattle.parse_script.specs.Reading.{entered, line_step, head_colon, head_line, head_block, print_word, start_word, class_stage_of, class_next, def_stage_of, def_next, script_step}
 use Rattle.parse_script.proofs.Back.{Sound, sound_at, next_is, inside_sound, plain_sound, dotted_sound, target_sound, named_sound, typed_sound, assigning_sound, returning_sound, argument_sound, listing_sound}
 use Rattle.parse_script.proofs.BackStart.{start_sound, behind_sound}
 use Rattle.parse_script.proofs.ClassLive.{LiveClass, class_live}

@@ -1,14 +1,12 @@
 -- Runs inside runs, and small facts about options and lists.
-use Rattle.std.proofs.Common.{◌≡◌, ℕ, ◌≤◌, List, [], ◌∷◌, ◌++◌, Option, Some, None, refl, sym, ◌∙◌, ap, subst}
+use Rattle.std.proofs.Common.{◌≡◌, List, [], ◌∷◌, ◌++◌, Option, Some, None, refl, ap}
 use Rattle.mono_syntax.specs.declared.leaf.Place.{Place}
-use Rattle.mono_syntax.specs.Ann.{Ann}
-use Rattle.parse_expr.specs.declared.machine.TypeFrame.{TypeFrame}
 use Rattle.parse_expr.specs.declared.machine.TypeMode.{TypeMode}
 use Rattle.parse_expr.specs.declared.machine.TypeMode.TheVariants as type_mode
 use Rattle.parse_expr.specs.declared.machine.Weighed.{Weighed}
 use Rattle.parse_expr.specs.Goes.{Goes, stay, go}
 use Rattle.parse_expr.specs.Reading.{step}
-use Rattle.parse_expr.specs.TypeReading.{type_step, type_finish, type_whole}
+use Rattle.parse_expr.specs.TypeReading.{type_step, type_finish}
 use Rattle.parse_expr.specs.declared.machine.Mode.{Mode}
 use Rattle.parse_expr.specs.declared.machine.Mode.TheVariants as mode
 use Rattle.parse_expr.proofs.Goes.{then}

@@ -1,4 +1,4 @@
-use Rattle.std.proofs.Common.{◌≡◌, ◌∙◌, sym, ap, subst, map, length, ◌≤◌, arith, replicate, false}
+use Rattle.std.proofs.Common.{◌≡◌, ◌∙◌, sym, ap, subst, map, length, ◌≤◌, arith, false}
 use Rattle.std.proofs.lemmas.List.{length-map, length-replicate}
 use Rattle.class_types.specs.Leading.{unmarked, mark_round}
 use Rattle.class_types.specs.Made.{names_of_classes}

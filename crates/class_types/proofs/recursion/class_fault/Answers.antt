@@ -1,6 +1,6 @@
-use Rattle.std.proofs.Common.{◌≡◌, ◌∙◌, sym, ap, subst, map, Some}
+use Rattle.std.proofs.Common.{◌≡◌, ◌∙◌, subst, map, Some}
 use Rattle.class_types.specs.FoundFaults.{found}
-use Rattle.class_types.specs.Leading.{word_fault, AreLeading}
+use Rattle.class_types.specs.Leading.{word_fault}
 use Rattle.class_types.specs.Made.{names_of_classes, place_in}
 use Rattle.class_types.specs.Measured.{leaf}
 use Rattle.class_types.specs.Recursion.{field_names}

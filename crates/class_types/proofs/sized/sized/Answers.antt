@@ -1,10 +1,7 @@
-use Rattle.std.proofs.Common.{◌≡◌, ◌∙◌, sym, ap, subst, map, length, ◌≤◌, arith, replicate, None}
-use Rattle.std.proofs.lemmas.List.{length-map, length-replicate}
+use Rattle.std.proofs.Common.{◌≡◌, ◌∙◌, sym, ap, map, length, ◌≤◌, arith, replicate, None}
+use Rattle.std.proofs.lemmas.List.{length-map}
 use Rattle.class_types.specs.Rounds.{unknown}
-use Rattle.class_types.specs.Measured.{class_size_by}
-use Rattle.class_types.proofs.MadeLaws.{class-grows}
 use Rattle.class_types.proofs.SizedLaws.{ArePartlyMeasured, sized-start, sized-next, sized-fewer, sized-done, sized-left}
-use Rattle.class_types.proofs.RoundLaws.{unknown-length, visited-length}
 use Rattle.class_types.proofs.sized.sized.Goals as goal
 
 pub loop-left-init : goal.loop-left-init

@@ -1,12 +1,10 @@
-use Rattle.std.proofs.Common.{◌≡◌, ◌∙◌, sym, ap, subst, None, ◌++◌, [], IfOk}
-use Rattle.std.specs.Prelude.{MatchOption, slice_get}
+use Rattle.std.proofs.Common.{◌≡◌, ◌∙◌, sym, ap, subst, None, []}
+use Rattle.std.specs.Prelude.{slice_get}
 use Rattle.script_rules.specs.Definitions.{classes_of, statements_of}
 use Rattle.script_rules.specs.Scoping.{class_list}
-use Rattle.class_types.specs.FirstFault.{IsFirst, IsFaultless}
 use Rattle.class_types.specs.FoundFaults.{first_from, items_faults, name_fault, script_faults}
 use Rattle.class_types.specs.Made.{look, names_of_classes}
 use Rattle.class_types.specs.Measured.{AreMeasured}
-use Rattle.class_types.specs.SizeFaults.{SizeFault}
 use Rattle.class_types.specs.SourceParts.{block_names}
 use Rattle.class_types.proofs.FoundLaws.{first-append, if_ok}
 use Rattle.class_types.proofs.SizeFaultLaws.{first-fault}

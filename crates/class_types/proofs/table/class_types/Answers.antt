@@ -1,4 +1,4 @@
-use Rattle.std.proofs.Common.{◌≡◌, ◌∙◌, sym, subst, refl}
+use Rattle.std.proofs.Common.{◌≡◌, ◌∙◌, subst, refl}
 use Rattle.std.specs.Prelude.{ℕ, Some, None, slice_get}
 use Rattle.script_rules.specs.Definitions.{classes_of}
 use Rattle.script_rules.specs.Scoping.{AreDistinct, class_list}

@@ -1,4 +1,4 @@
-use Rattle.std.proofs.Common.{[], ◌+◌, refl, arith, sym, ◌∙◌, ap, subst}
+use Rattle.std.proofs.Common.{sym, ◌∙◌, ap, subst}
 use Rattle.parse_script.specs.declared.stage.Around.{Around}
 use Rattle.parse_script.specs.declared.stage.Stage.TheVariants as stage
 use Rattle.parse_script.specs.Reading.{script_step, top}
