@@ -1,4 +1,4 @@
-use Rattle.std.proofs.Common.{ℕ, ◌≡◌, ◌≤◌, ◌++◌, ◌∙◌, List, length, take, drop, ap, subst, arith, Err}
+use Rattle.std.proofs.Common.{ℕ, ◌≤◌, ◌∙◌, List, take, drop, ap, subst, arith, Err}
 use Rattle.std.specs.List.{slice_range}
 use Rattle.mono_io.specs.Faults.{appended}
 use Rattle.mono_io.specs.Puts.{Puts}
