@@ -44,6 +44,6 @@ for document in README.md docs/LANGUAGE.md; do
             cat "$script" "$work/diff"
         fi
     done
-    echo "$document: $count scripts"
+    echo "$document: scripts run: $count"
 done
 exit "$differ"
