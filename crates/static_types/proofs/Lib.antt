@@ -1,0 +1,9 @@
+pub mod Writing
+pub mod RuleLaws
+pub mod UseLaws
+pub mod TypeLaws
+pub mod LineRuleLaws
+pub mod LineRows
+pub mod LineLaws
+pub mod LineFaultLaws
+pub mod ScriptLaws

@@ -1,0 +1,13 @@
+pub mod SourcePlaces
+pub mod Names
+pub mod Members
+pub mod Operators
+pub mod Parts
+pub mod Rules
+pub mod Types
+pub mod Faults
+pub mod BodyEnds
+pub mod Lines
+pub mod LineFaults
+pub mod Scripts
+pub mod Typing
