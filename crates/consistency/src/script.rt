@@ -1,0 +1,201 @@
+ghost use Rattle.std.specs.Prelude.{◌≡◌, [], ◌∷◌, IfOk, IfErr, IsOkUnless, Ok};
+ghost use Rattle.mono_syntax.specs.declared.refusal.LoadFault.TheVariants as LoadFault;
+ghost use Rattle.mono_syntax.specs.declared.refusal.Refusal.{Refusal};
+ghost use Rattle.mono_syntax.specs.declared.script.Typed.{Typed};
+ghost use Rattle.mono_syntax.specs.declared.tree.Item.TheVariants as item;
+ghost use Rattle.script_rules.specs.Scoping.{IsScope};
+ghost use Rattle.static_types.specs.Typing.{IsTyping, IsFault, Refuses};
+ghost use Rattle.static_types.specs.Scripts.{IsTypeFault};
+ghost use Rattle.known_names.specs.Gives.{Gives};
+ghost use Rattle.known_names.specs.Gathered.{known_in};
+ghost use Rattle.consistency.specs.Lined.{line_typed};
+ghost use Rattle.consistency.specs.Steps.{and_then};
+ghost use Rattle.consistency.specs.Scripted.{end_at, function_end, body_typed, item_typed, items_typed, no_exprs_yet, begun, typed_script, checked};
+
+use crate::endings::may_end;
+use crate::lines::{State, block_typed, line_typed, shared_type};
+use crate::rules::refused;
+use crate::trace::Trace;
+use known_names::{Known, Local, function_names, is_consistent, known_in, main_names, new_type};
+use mono_list::Shared;
+use mono_syntax::{FuncDef, Item, LoadFault, Reason, Scoped, Stmt, Ty, TyKind, Typed};
+use sqlite_items::Items;
+use std::alloc::{AllocError, Global};
+
+/// The main block so far, and how many functions were passed.
+#[derive(Drop)]
+pub struct Done {
+    pub state: State,
+    pub functions: usize,
+}
+
+/// A function's end, which gives `None`.
+fn end_at(alloc: Global, ty: &Ty, function: &FuncDef, trace: Trace) -> Result<Trace, LoadFault>
+    ensures { Gives result (end_at ty.now function.now trace) }
+{
+    let none = new_type(alloc, TyKind::Nil)?;
+    if is_consistent(alloc, none.get(), ty)? {
+        return Ok(trace);
+    }
+    Err(refused(function.name.place, Reason::Inconsistent))
+}
+
+fn function_end(
+    alloc: Global,
+    declared: Option<Shared<Ty>>,
+    function: &FuncDef,
+    trace: Trace,
+) -> Result<Trace, LoadFault>
+    ensures { Gives result (function_end declared function.now trace) }
+{
+    match declared {
+        Some(ty) if may_end(function.body.as_slice()) => end_at(alloc, ty.get(), function, trace),
+        _ => Ok(trace),
+    }
+}
+
+/// The body of a function, and its end, where its names are these.
+fn body_typed(
+    alloc: Global,
+    known: &Known,
+    local: Local,
+    function: &FuncDef,
+    trace: Trace,
+) -> Result<Trace, LoadFault>
+    ensures { Gives result (body_typed known.now local function.now trace) }
+{
+    let declared = shared_type(&local.result)?;
+    let state = State { local, trace };
+    match block_typed(alloc, known, state, function.body.as_slice()) {
+        Ok(state) => function_end(alloc, declared, function, state.trace),
+        Err(fault) => Err(fault),
+    }
+}
+
+fn function_typed(
+    alloc: Global,
+    scoped: &Scoped,
+    known: &Known,
+    done: Done,
+    function: &FuncDef,
+) -> Result<Done, LoadFault>
+    requires scope { IsScope scoped.now.script scoped.now }
+    ensures { Gives result (item_typed scoped.now known.now done (item.Def function.now)) }
+{
+    let Done { state, functions } = done;
+    let State { local, trace } = state;
+    let names = function_names(alloc, scoped, functions)?;
+    let trace = body_typed(alloc, known, names, function, trace)?;
+    // There are never as many: a script of 2^20 bytes has no more functions than bytes.
+    let Some(functions) = functions.checked_add(1) else {
+        return Err(LoadFault::Memory);
+    };
+    let state = State { local, trace };
+    Ok(Done { state, functions })
+}
+
+fn statement_typed(alloc: Global, known: &Known, done: Done, s: &Stmt) -> Result<Done, LoadFault>
+    ensures { Gives result (and_then (line_typed known.now done.state s.now) (λ t. Ok (record { state = t; functions = done.functions }))) }
+{
+    let Done { state, functions } = done;
+    let state = line_typed(alloc, known, state, s)?;
+    Ok(Done { state, functions })
+}
+
+fn item_typed(
+    alloc: Global,
+    scoped: &Scoped,
+    known: &Known,
+    done: Done,
+    item: &Item,
+) -> Result<Done, LoadFault>
+    requires scope { IsScope scoped.now.script scoped.now }
+    ensures { Gives result (item_typed scoped.now known.now done item.now) }
+{
+    match item {
+        Item::Class(_) => Ok(done),
+        Item::Def(function) => function_typed(alloc, scoped, known, done, function),
+        Item::Stmt(s) => statement_typed(alloc, known, done, s),
+    }
+}
+
+/// The items of a script in source order.
+fn items_typed(
+    alloc: Global,
+    scoped: &Scoped,
+    known: &Known,
+    start: Done,
+    items: &[Item],
+) -> Result<Done, LoadFault>
+    requires scope { IsScope scoped.now.script scoped.now }
+    ensures { Gives result (items_typed scoped.now known.now start items.now) }
+{
+    let mut done = start;
+    for item in items {
+        done = item_typed(alloc, scoped, known, done, item)?;
+    }
+    Ok(done)
+}
+
+fn no_exprs_yet(alloc: Global) -> Trace
+    ensures { result ≡ no_exprs_yet }
+{
+    let types = Items::new(alloc);
+    let exprs = Items::new(alloc);
+    Trace { types, exprs }
+}
+
+fn begun(alloc: Global, scoped: &Scoped) -> Result<Done, AllocError>
+    requires scope { IsScope scoped.now.script scoped.now }
+    ensures { IfOk result (λ done. done ≡ begun scoped.now) }
+{
+    let local = main_names(alloc, scoped)?;
+    let trace = no_exprs_yet(alloc);
+    let state = State { local, trace };
+    Ok(Done {
+        state,
+        functions: 0,
+    })
+}
+
+fn all_typed(alloc: Global, scoped: &Scoped) -> Result<Done, LoadFault>
+    requires scope { IsScope scoped.now.script scoped.now }
+    ensures { Gives result (items_typed scoped.now (known_in scoped.now) (begun scoped.now) scoped.now.script.items) }
+{
+    let known = known_in(alloc, scoped)?;
+    let start = begun(alloc, scoped)?;
+    let items = scoped.script.get().items.get().as_slice();
+    items_typed(alloc, scoped, &known, start, items)
+}
+
+fn checked(alloc: Global, scoped: &Shared<Scoped>) -> Result<Typed, LoadFault>
+    requires scope { IsScope scoped.now.script scoped.now }
+    ensures { Gives result (checked scoped.now) }
+{
+    let done = all_typed(alloc, scoped.get())?;
+    let scoped = scoped.share()?;
+    let Trace { types, exprs } = done.state.trace;
+    Ok(Typed {
+        scoped,
+        types,
+        exprs,
+    })
+}
+
+/// The script with the type of each expression, or its first fault of typing: a value used at a type that has no meet with its
+/// own, a field that isn't there, a call with too many or too few arguments, or a call of what is no function.
+///
+/// Parts are looked at in source order and before their whole, and of the faults of one construct the first by place counts. The
+/// list of types has each in the order in which expressions first have it. A bare return counts as `return None`, so its `None` is
+/// among the expressions.
+pub fn check(alloc: Global, scoped: &Shared<Scoped>) -> Result<Typed, LoadFault>
+    requires scope { IsScope scoped.now.script scoped.now }
+    ensures accepted { IfOk result (IsTyping scoped.now) }
+    ensures refused { IfErr result (IsFault scoped.now) }
+
+    // What the rules accept is accepted, and what they refuse is refused so, unless there is no memory.
+    ensures accepts { (p : Typed) → IsTyping scoped.now p → IsOkUnless result LoadFault.Memory }
+    ensures refuses { (r : Refusal) → IsTypeFault scoped.now.script r → Refuses result r }
+{
+    checked(alloc, scoped)
+}

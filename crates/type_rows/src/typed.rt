@@ -1,0 +1,65 @@
+ghost use Rattle.std.specs.Prelude.{◌≤◌, length, chars};
+ghost use Rattle.py_lexer.specs.Lexes.{Lexes};
+
+use consistency::check;
+use mono_list::Shared;
+use mono_syntax::{LoadFault, Place, Reason, Refusal, Script, Typed};
+use mono_tree::type_text;
+use name_scope::scope;
+use parse_script::parse;
+use py_lexer::{Token, lex};
+use std::alloc::{AllocError, Global};
+
+const LONGEST: usize = 1_048_576;
+
+const TOO_LONG: Refusal = Refusal {
+    place: Place { line: 1, column: 1 },
+    reason: Reason::TooLong,
+};
+
+fn typed_script(alloc: Global, script: &Script) -> Result<Typed, LoadFault> {
+    let scoped = Shared::new(alloc, scope(alloc, script)?)?;
+    check(alloc, &scoped)
+}
+
+fn typed_tokens(alloc: Global, tokens: &[Token], text: &str) -> Result<Typed, LoadFault>
+    requires length { length text.now ≤ 1048576 }
+    requires lexed { Lexes (chars text.now) tokens.now }
+{
+    let script = parse(alloc, tokens, text)?;
+    typed_script(alloc, &script)
+}
+
+fn typed(alloc: Global, text: &str) -> Result<Typed, LoadFault> {
+    if text.len() > LONGEST {
+        return Err(LoadFault::Refused(TOO_LONG));
+    }
+    let tokens = lex(alloc, text)?;
+    typed_tokens(alloc, tokens.as_slice(), text)
+}
+
+/// The type of each expression, a line for each.
+fn type_lines(alloc: Global, typed: &Typed) -> Result<String, AllocError> {
+    let mut lines = String::new(alloc);
+    for at in typed.exprs.as_slice() {
+        let line = match typed.types.as_slice().get(at.0 as usize) {
+            Some(ty) => type_text(alloc, ty.get())?,
+            None => String::from_str(alloc, "no type")?,
+        };
+        lines.push_str(line.as_str())?;
+        lines.push_str("\n")?;
+    }
+    Ok(lines)
+}
+
+/// What the typing of a script gives: the type of each expression, or the place and the reason of its first fault.
+pub fn outcome(alloc: Global, text: &str) -> Result<String, AllocError> {
+    match typed(alloc, text) {
+        Ok(typed) => type_lines(alloc, &typed),
+        Err(LoadFault::Refused(refusal)) => {
+            let Place { line, column } = refusal.place;
+            format!(in alloc; "{line}:{column} {:?}\n", refusal.reason)
+        }
+        Err(LoadFault::Memory) => Err(AllocError),
+    }
+}
