@@ -3,8 +3,8 @@ ghost use Rattle.py_lexer.specs.Lexes.{Lexes};
 
 use consistency::check;
 use mono_list::Shared;
-use mono_syntax::{LoadFault, Place, Reason, Refusal, Script, Typed};
-use mono_tree::type_text;
+use mono_syntax::{LoadFault, Place, Reason, Refusal, Script, Ty, TyAt, Typed};
+use mono_tree::type_bytes;
 use name_scope::scope;
 use parse_script::parse;
 use py_lexer::{Token, lex};
@@ -38,14 +38,28 @@ fn typed(alloc: Global, text: &str) -> Result<Typed, LoadFault> {
     typed_tokens(alloc, tokens.as_slice(), text)
 }
 
+/// The text of some bytes, which are one wherever the names in a script are.
+fn text_of(alloc: Global, bytes: &[u8]) -> Result<String, AllocError> {
+    match std::str::from_utf8(bytes) {
+        Ok(text) => String::from_str(alloc, text),
+        Err(_) => String::from_str(alloc, "no text"),
+    }
+}
+
+/// The type at a position.
+fn type_at(alloc: Global, types: &[Shared<Ty>], at: TyAt) -> Result<String, AllocError> {
+    let Some(ty) = types.get(at.0 as usize) else {
+        return String::from_str(alloc, "no type");
+    };
+    let text = type_bytes(alloc, ty.get())?;
+    text_of(alloc, text.as_slice())
+}
+
 /// The type of each expression, a line for each.
 fn type_lines(alloc: Global, typed: &Typed) -> Result<String, AllocError> {
     let mut lines = String::new(alloc);
     for at in typed.exprs.as_slice() {
-        let line = match typed.types.as_slice().get(at.0 as usize) {
-            Some(ty) => type_text(alloc, ty.get())?,
-            None => String::from_str(alloc, "no type")?,
-        };
+        let line = type_at(alloc, typed.types.as_slice(), *at)?;
         lines.push_str(line.as_str())?;
         lines.push_str("\n")?;
     }
