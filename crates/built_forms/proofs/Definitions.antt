@@ -11,10 +11,10 @@ use Rattle.mono_tree.proofs.MeetMade.{named, name_read}
 use Rattle.script_rules.specs.Definitions.{classes_of, class_named}
 use Rattle.script_rules.specs.Scoping.{ClassesStand}
 use Rattle.script_rules.specs.Writes.{IsClassType}
-use Rattle.name_scope.specs.declared.occurrence.Occurrence.{Occurrence}
-use Rattle.name_scope.specs.declared.occurrence.Role.TheVariants as role
-use Rattle.name_scope.specs.Occurrences.{at, defined_by}
-use Rattle.name_scope.specs.Rules.{is_class, Stands}
+use Rattle.script_rules.specs.declared.occurrence.Occurrence.{Occurrence}
+use Rattle.script_rules.specs.declared.occurrence.Role.TheVariants as role
+use Rattle.script_rules.specs.Occurrences.{at, defined_by}
+use Rattle.script_rules.specs.NameRules.{is_class, Stands}
 use Rattle.typing_rules.specs.Members.{Numbered, class_from}
 use Rattle.built_forms.specs.BuiltTrees.{AreBuiltItems}
 use Rattle.built_forms.proofs.Standing.{nothing, head_stands, tail_stands, first_or}

@@ -16,16 +16,16 @@ use Rattle.mono_syntax.specs.Expr.{Expr, local, number, text, truth, nil, neg, n
 use Rattle.mono_syntax.specs.Stmt.{Stmt, pass, give, print, assign, write, start, plain, if_any, loop, Block, no_stmts, more_stmts, Branches, no_branches, more_branches, Else, no_else, otherwise}
 use Rattle.mono_syntax.specs.StmtView.{block}
 use Rattle.mono_syntax.specs.Ty.{Ty}
-use Rattle.mono_tree.specs.WellTyped.{type_of_name}
+use Rattle.mono_tree.specs.TypedPrograms.{type_of_name}
 use Rattle.parse_script.specs.Shapes.{IsShapedExpr, AreShapedExprs, IsBranched, IsShapedStmt, IsShapedBlock, AreShapedBranches, IsShapedElse, AreShapedItems, IsShaped}
 use Rattle.script_rules.specs.BlockNames.{Target, targets, block_targets, branch_targets, else_targets, firsts, all_targets}
 use Rattle.script_rules.specs.Definitions.{class_named, statements_of}
 use Rattle.script_rules.specs.Scoping.{IsScope, ClassesStand, class_list, main_block}
 use Rattle.script_rules.specs.Writes.{Writes, writes_dyn, writes_int, writes_bool, writes_str, writes_nil, writes_class, IsClassType}
-use Rattle.name_scope.specs.declared.occurrence.Occurrence.{Occurrence}
-use Rattle.name_scope.specs.declared.occurrence.Role.TheVariants as role
-use Rattle.name_scope.specs.Occurrences.{at, in_ann, in_expr, in_exprs, in_target, in_stmt, in_block, in_branches, in_else}
-use Rattle.name_scope.specs.ScopeFaults.{IsRight}
+use Rattle.script_rules.specs.declared.occurrence.Occurrence.{Occurrence}
+use Rattle.script_rules.specs.declared.occurrence.Role.TheVariants as role
+use Rattle.script_rules.specs.Occurrences.{at, in_ann, in_expr, in_exprs, in_target, in_stmt, in_block, in_branches, in_else}
+use Rattle.script_rules.specs.ScopeFaults.{IsRight}
 use Rattle.typing_rules.specs.BuiltForms.{IsBuilt, IsBuiltLine, AreBuiltLines, HasBranch, AreBuilt}
 use Rattle.typing_rules.specs.BuiltForms as built
 use Rattle.typing_rules.specs.HasCasts.{AreNames, IsMainNames}

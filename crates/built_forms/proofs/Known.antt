@@ -12,16 +12,16 @@ use Rattle.mono_syntax.specs.declared.tree.Script.{Script}
 use Rattle.mono_syntax.specs.Stmt.{Stmt}
 use Rattle.mono_syntax.specs.StmtView.{block}
 use Rattle.mono_syntax.specs.Ty.{Ty}
-use Rattle.mono_tree.specs.WellTyped.{type_of_name}
+use Rattle.mono_tree.specs.TypedPrograms.{type_of_name}
 use Rattle.script_rules.specs.BlockNames.{Target, targets, block_targets, firsts}
 use Rattle.script_rules.specs.Definitions.{class_named, statements_of}
 use Rattle.script_rules.specs.Scoping.{class_list, main_block}
-use Rattle.name_scope.specs.declared.occurrence.Occurrence.{Occurrence}
-use Rattle.name_scope.specs.declared.occurrence.Role.TheVariants as role
-use Rattle.name_scope.specs.NameFaults.{BodyFault, unknown_name, unknown_type, class_read}
-use Rattle.name_scope.specs.Occurrences.{in_main, definitions, body_of, bodies}
-use Rattle.name_scope.specs.Rules.{gives_name, is_use, is_class, is_definition, Stands, StandsBehind}
-use Rattle.name_scope.specs.ScopeFaults.{IsRight}
+use Rattle.script_rules.specs.declared.occurrence.Occurrence.{Occurrence}
+use Rattle.script_rules.specs.declared.occurrence.Role.TheVariants as role
+use Rattle.script_rules.specs.NameFaults.{BodyFault, unknown_name, unknown_type, class_read}
+use Rattle.script_rules.specs.Occurrences.{in_main, definitions, body_of, bodies}
+use Rattle.script_rules.specs.NameRules.{gives_name, is_use, is_class, is_definition, Stands, StandsBehind}
+use Rattle.script_rules.specs.ScopeFaults.{IsRight}
 use Rattle.typing_rules.specs.HasCasts.{AreNames}
 use Rattle.built_forms.specs.BuiltTrees.{IsBuiltBlock, AreBuiltItems, IsBuiltTree}
 use Rattle.built_forms.proofs.Standing.{head_stands, tail_stands, parted}

@@ -6,11 +6,11 @@ use Rattle.mono_syntax.specs.declared.leaf.Word.{Word}
 use Rattle.mono_syntax.specs.Ann.{Ann, ann, Anns, no_anns, more_anns}
 use Rattle.mono_syntax.specs.Ann as form
 use Rattle.mono_syntax.specs.Expr.{Expr, Exprs, local, number, text, truth, nil, neg, negation, binary, both, either, read, call, cast, join, no_exprs, more_exprs}
-use Rattle.name_scope.specs.declared.occurrence.Occurrence.{Occurrence}
-use Rattle.name_scope.specs.declared.occurrence.Role.{Role}
-use Rattle.name_scope.specs.declared.occurrence.Role.TheVariants as role
-use Rattle.name_scope.specs.Occurrences.{at, in_ann, in_anns, in_expr, in_exprs}
-use Rattle.name_scope.specs.Rules.{gives_name}
+use Rattle.script_rules.specs.declared.occurrence.Occurrence.{Occurrence}
+use Rattle.script_rules.specs.declared.occurrence.Role.{Role}
+use Rattle.script_rules.specs.declared.occurrence.Role.TheVariants as role
+use Rattle.script_rules.specs.Occurrences.{at, in_ann, in_anns, in_expr, in_exprs}
+use Rattle.script_rules.specs.NameRules.{gives_name}
 use Rattle.built_forms.proofs.Standing.{nothing, only}
 
 abbrev Gives : Occurrence → Type 0

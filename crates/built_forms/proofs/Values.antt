@@ -9,14 +9,14 @@ use Rattle.mono_syntax.specs.declared.leaf.Word.{Word}
 use Rattle.mono_syntax.specs.Ann.{Ann}
 use Rattle.mono_syntax.specs.Expr.{Expr}
 use Rattle.mono_syntax.specs.Stmt.{Stmt, pass, give, print, assign, write, start, plain, if_any, loop, Block, no_stmts, more_stmts, Branches, no_branches, more_branches, Else, no_else, otherwise}
-use Rattle.mono_tree.specs.WellTyped.{type_of_name}
+use Rattle.mono_tree.specs.TypedPrograms.{type_of_name}
 use Rattle.mono_tree.proofs.MeetMade.{named, name_read}
 use Rattle.script_rules.specs.BlockNames.{Target, targets, block_targets, branch_targets, else_targets, elsewhere, firsts}
 use Rattle.typing_rules.specs.HasCasts.{AreNames}
-use Rattle.name_scope.specs.declared.occurrence.Occurrence.{Occurrence}
-use Rattle.name_scope.specs.declared.occurrence.Role.TheVariants as role
-use Rattle.name_scope.specs.Occurrences.{at, in_ann, in_expr, in_target, in_stmt, in_block, in_branches, in_else}
-use Rattle.name_scope.specs.Rules.{gives_name}
+use Rattle.script_rules.specs.declared.occurrence.Occurrence.{Occurrence}
+use Rattle.script_rules.specs.declared.occurrence.Role.TheVariants as role
+use Rattle.script_rules.specs.Occurrences.{at, in_ann, in_expr, in_target, in_stmt, in_block, in_branches, in_else}
+use Rattle.script_rules.specs.NameRules.{gives_name}
 use Rattle.built_forms.specs.BuiltTrees.{IsBuiltStmt, IsBuiltBlock, AreBuiltBranches, IsBuiltElse}
 use Rattle.built_forms.proofs.Standing.{nothing, head_stands, tail_stands, first_or, only}
 use Rattle.built_forms.proofs.Uses.{ann_uses, expr_uses, exprs_use}

@@ -2,7 +2,7 @@
 ghost use Rattle.mono_syntax.specs.declared.script.Scoped.{Scoped};
 ghost use Rattle.mono_syntax.specs.declared.tree.Script.{Script};
 ghost use Rattle.built_forms.specs.BuiltTrees.{IsBuiltTree};
-ghost use Rattle.name_scope.specs.ScopeFaults.{IsRight};
+ghost use Rattle.script_rules.specs.ScopeFaults.{IsRight};
 ghost use Rattle.parse_script.specs.Shapes.{IsShaped};
 ghost use Rattle.script_rules.specs.Scoping.{IsScope};
 ghost use Rattle.typing_rules.specs.BuiltForms.{AreBuilt};

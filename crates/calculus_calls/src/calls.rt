@@ -67,16 +67,22 @@ fn cells_of(
 fn put_object(
     room: u32,
     heap: &Heap,
-    object: Object,
+    class: u32,
+    cells: NameMap<Cell>,
     mut frame: Frame,
     below: Stack<Frame>,
 ) -> Result<Outcome, AllocError>
-    ensures { IfOk result (λ o. o ≡ new_object room heap.now object.class (Some object.cells) frame below) }
+    ensures { IfOk result (λ o. o ≡ new_object room heap.now class (Some cells) frame below) }
 {
+    let object = Object {
+        class,
+        cells,
+        waits: 0,
+        maker: 0,
+    };
     let used = heap.size();
     let room = room as u64;
     if used <= room && size(&object) <= room - used {
-        let class = object.class;
         frame.values.push(Val::Obj {
             class,
             base: used as u32,
@@ -109,7 +115,7 @@ pub fn new_object(
     let given = named(alloc, params, args.as_slice())?;
     match cells_of(alloc, members_of(definition.ty.get()), &given)? {
         None => Ok(Outcome::NoRow),
-        Some(cells) => put_object(room, heap, Object { class, cells }, frame, below),
+        Some(cells) => put_object(room, heap, class, cells, frame, below),
     }
 }
 

@@ -381,6 +381,8 @@ pub fn copy_object(alloc: Global, object: &Object) -> Result<Object, AllocError>
     Ok(Object {
         class: object.class,
         cells,
+        waits: object.waits,
+        maker: object.maker,
     })
 }
 

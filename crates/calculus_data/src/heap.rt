@@ -78,7 +78,13 @@ fn cell_in<'a>(objects: &'a [Object], starts: &[u64], base: u64, field: &[u8]) -
 {
     match object_in(objects, starts, base) {
         None => None,
-        Some(object) => object.cells.get(field),
+        Some(object) => {
+            if object.waits == 0 {
+                object.cells.get(field)
+            } else {
+                None
+            }
+        }
     }
 }
 

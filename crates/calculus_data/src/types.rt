@@ -2,7 +2,7 @@ ghost use Rattle.std.specs.Prelude.{◌≡◌, IfOk};
 ghost use Rattle.mono_syntax.specs.TyView.{fields};
 ghost use Rattle.mono_tree.specs.CastScripts.{fields_of};
 ghost use Rattle.mono_tree.specs.Precision.{precise};
-ghost use Rattle.mono_tree.specs.Meet.{meet};
+ghost use Rattle.mono_tree.specs.Meet.{meet_of};
 ghost use Rattle.mono_tree.specs.Static.{is_static};
 ghost use Rattle.cast_machine.specs.Cells.{same_type, is_dyn};
 
@@ -39,14 +39,14 @@ pub fn is_dyn(a: &Ty) -> bool
 }
 
 fn met(alloc: Global, a: &Ty, b: &Ty) -> Result<Option<Ty>, AllocError>
-    ensures { IfOk result (λ m. m ≡ meet a.now b.now) }
+    ensures { IfOk result (λ m. m ≡ meet_of a.now b.now) }
 {
     mono_tree::meet(alloc, a, b)
 }
 
 /// The meet of two types, shared.
 pub fn meet(alloc: Global, a: &Ty, b: &Ty) -> Result<Option<Shared<Ty>>, AllocError>
-    ensures { IfOk result (λ m. m ≡ meet a.now b.now) }
+    ensures { IfOk result (λ m. m ≡ meet_of a.now b.now) }
 {
     match met(alloc, a, b)? {
         None => Ok(None),

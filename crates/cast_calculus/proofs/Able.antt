@@ -4,7 +4,7 @@ use Rattle.mono_list.proofs.Cases.{split, some_is, none_some}
 use Rattle.mono_syntax.specs.Ty.{Ty}
 use Rattle.mono_syntax.specs.declared.value.Val.{Val}
 use Rattle.mono_syntax.specs.declared.cast.CastScript.{CastScript}
-use Rattle.mono_tree.specs.WellTyped.{IsWellTypedProgram}
+use Rattle.mono_tree.specs.TypedPrograms.{IsTypedProgram}
 use Rattle.cast_machine.specs.declared.data.Frame.{Frame}
 use Rattle.cast_machine.specs.declared.data.Thread.{Thread}
 use Rattle.cast_machine.specs.declared.data.State.{State}
@@ -72,7 +72,7 @@ leave_steps t th false vs a below c s = refl
 
 -- ---- a thread
 
-module _ (p : CastScript) (pok : IsWellTypedProgram p) (c : Configuration) (ok : IsWellTyped p c) (t : ℕ) (th : Thread) (here : slice_get c.threads t ≡ Some th) where
+module _ (p : CastScript) (pok : IsTypedProgram p) (c : Configuration) (ok : IsWellTyped p c) (t : ℕ) (th : Thread) (here : slice_get c.threads t ≡ Some th) where
   abbrev pub out : Configuration
   out = record c { threads = slice_set c.threads t taken_out }
 
@@ -143,7 +143,7 @@ module _ (p : CastScript) (pok : IsWellTypedProgram p) (c : Configuration) (ok :
 
 -- ---- all threads
 
-module _ (p : CastScript) (pok : IsWellTypedProgram p) (c : Configuration) (ok : IsWellTyped p c) where
+module _ (p : CastScript) (pok : IsTypedProgram p) (c : Configuration) (ok : IsWellTyped p c) where
   from_same : (ths : List Thread) (n : ℕ) → ((k : ℕ) (th : Thread) → slice_get ths k ≡ Some th → slice_get c.threads (n + k) ≡ Some th) → runnable_from p c n ths ≡ steps_from c n ths
   from_same [] n at = refl
   from_same (th ∷ ths) n at =

@@ -139,7 +139,7 @@ write_fresh p h m k s x r vs f below = tt
 object_fresh : (room : ℕ) (h : Heap) (c : ℕ) (o : Option (List (List ℕ × Cell))) (f : Frame) (below : List Frame) → IsFresh (new_object room h c o f below)
 object_fresh room h c None f below = tt
 object_fresh room h c (Some cells) f below =
-    on_test (nat_le (heap_size h + size (record { class = c; cells = cells })) room) _ _ IsFresh (λ _. tt) (λ _. tt)
+    on_test (nat_le (heap_size h + size (record { class = c; cells = cells; waits = 0; maker = 0 })) room) _ _ IsFresh (λ _. tt) (λ _. tt)
 
 new_args_fresh : (room : ℕ) (h : Heap) (c : ℕ) (d : CastClass) (o : Option (List Val × List Val)) (f : Frame) (below : List Frame) → IsFresh (new_args room h c d o f below)
 new_args_fresh room h c d None f below = tt

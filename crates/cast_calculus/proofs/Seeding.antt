@@ -2,7 +2,7 @@
 use Rattle.std.proofs.Common.{◌≡◌, ℕ, ◌+◌, ◌-◌, ◌*◌, ◌<◌, true, false, List, length, Option, Some, None, is_some, slice_get, unwrap_or, refl, ap, sym, ◌∙◌, subst, arith}
 use Rattle.mono_list.proofs.Cases.{some_is, some_none}
 use Rattle.mono_syntax.specs.declared.cast.CastScript.{CastScript}
-use Rattle.mono_tree.specs.WellTyped.{IsWellTypedProgram}
+use Rattle.mono_tree.specs.TypedPrograms.{IsTypedProgram}
 use Rattle.cast_machine.specs.Step.{Configuration, is_runnable, next_seed, pick, run_from, start_of, step_of}
 use Rattle.cast_machine.specs.Seeded.{picked_at, seeded, seeded_thread}
 use Rattle.cast_machine.specs.Typing.{IsWellTyped}
@@ -14,7 +14,7 @@ use Rattle.cast_calculus.specs.Runnable.{able_threads}
 use Rattle.cast_calculus.specs.SeededEnds.{EndsBySeed}
 use Rattle.cast_calculus.proofs.Able.{able_same}
 
-module _ (p : CastScript) (pok : IsWellTypedProgram p) (c : Configuration) (ok : IsWellTyped p c) (e : c.end ≡ None) where
+module _ (p : CastScript) (pok : IsTypedProgram p) (c : Configuration) (ok : IsWellTyped p c) (e : c.end ≡ None) where
   pub able_some : 0 < length (able_threads c)
   able_some = subst (λ (l : List ℕ). 0 < length l) (able_same p pok c ok) (progress p pok c ok e)
 
@@ -48,10 +48,10 @@ no_end (Some x) e = absurd_true e
     absurd_true : true ≡ false → Some x ≡ None
     absurd_true q = cc
 
-pub start_typed : (p : CastScript) (c : Configuration) → IsWellTypedProgram p → c ≡ start_of p c.settings → IsWellTyped p c
+pub start_typed : (p : CastScript) (c : Configuration) → IsTypedProgram p → c ≡ start_of p c.settings → IsWellTyped p c
 start_typed p c pok s = subst (IsWellTyped p) (sym s) (start_ok p pok c.settings)
 
-pub turn_typed : (p : CastScript) (c : Configuration) (o : Option ℕ) → IsWellTypedProgram p → IsWellTyped p c → IsWellTyped p (picked_at p c o)
+pub turn_typed : (p : CastScript) (c : Configuration) (o : Option ℕ) → IsTypedProgram p → IsWellTyped p c → IsWellTyped p (picked_at p c o)
 turn_typed p c None pok ok = ok
 turn_typed p c (Some t) pok ok = (pick_ok p pok c ok t).0
 
@@ -60,7 +60,7 @@ pub turn_same : (p : CastScript) (n i s : ℕ) (c : Configuration) → i < n →
 turn_same p n i s c h e = ap (λ (k : ℕ). seeded p k s c) (omega arith) ∙ seeded-suc p (n - (i + 1)) s c e
 
 -- the run has come to its end
-pub ended_by : (p : CastScript) (c : Configuration) (s : ℕ) (last : Configuration) → IsWellTypedProgram p → c ≡ start_of p c.settings →
+pub ended_by : (p : CastScript) (c : Configuration) (s : ℕ) (last : Configuration) → IsTypedProgram p → c ≡ start_of p c.settings →
     seeded p (256 * (c.settings.fuel + 2)) s c ≡ last → EndsBySeed p c s last
 ended_by p c s last pok starts same =
     let r = run_ends p pok c.settings s in

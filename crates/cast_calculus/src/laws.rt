@@ -1,7 +1,7 @@
 //! What holds of all runs.
 ghost use Rattle.std.specs.Prelude.{ℕ, ◌≤◌, List, ◌≡◌, ◌⊎◌, ◌↔◌, Some, slice_get};
 ghost use Rattle.mono_syntax.specs.declared.cast.CastScript.{CastScript};
-ghost use Rattle.mono_tree.specs.WellTyped.{IsWellTypedProgram};
+ghost use Rattle.mono_tree.specs.TypedPrograms.{IsTypedProgram};
 ghost use Rattle.cast_machine.specs.declared.data.Settings.{Settings};
 ghost use Rattle.cast_machine.specs.Step.{run_of, Configuration};
 ghost use Rattle.cast_machine.specs.Safety.{IsSafe};
@@ -18,7 +18,7 @@ ghost use Rattle.cast_orders.specs.Solutions.{IsSolution, IsWeakest, IsWeakestOf
 /// and holds no blame of a cast that only loses precision; one pick more leaves every field's type at least as precise,
 /// and where a cast goes its value has the target type.
 pub fn safe_runs()
-    ensures { (p : CastScript) → IsWellTypedProgram p → (s : Settings) → 1 ≤ s.fuel → (order : List ℕ) → IsSafe p (run_of p s order) }
+    ensures { (p : CastScript) → IsTypedProgram p → (s : Settings) → 1 ≤ s.fuel → (order : List ℕ) → IsSafe p (run_of p s order) }
 {
     cast_machine::laws::safe_runs()
 }

@@ -1,5 +1,5 @@
 ghost use Rattle.std.specs.Prelude.{◌≡◌, ◌<◌, IfOk, None};
-ghost use Rattle.mono_tree.specs.WellTyped.{IsWellTypedProgram};
+ghost use Rattle.mono_tree.specs.TypedPrograms.{IsTypedProgram};
 ghost use Rattle.cast_machine.specs.Step.{next_seed, pick, start_of};
 ghost use Rattle.cast_machine.specs.Seeded.{seeded_thread, picked_at};
 ghost use Rattle.cast_machine.specs.Typing.{IsWellTyped};
@@ -41,7 +41,7 @@ impl Config {
     /// The step of the thread that a seed picks.
     #[tactic(auto, using(crate::proofs::Seeding::seeding))]
     fn pick_by(self, alloc: Global, script: &CastScript, seed: u64) -> Result<Config, AllocError>
-        requires program { IsWellTypedProgram script.now }
+        requires program { IsTypedProgram script.now }
         requires typed { IsWellTyped script.now self }
         requires runs { self.end ≡ None }
         ensures { IfOk result (λ c. c ≡ picked_at script.now self (seeded_thread script.now self seed)) }
@@ -65,7 +65,7 @@ impl Config {
         script: &CastScript,
         seed: u64,
     ) -> Result<Config, AllocError>
-        requires program { IsWellTypedProgram script.now }
+        requires program { IsTypedProgram script.now }
         requires starts { self ≡ start_of script.now self.settings }
         ensures { IfOk result (λ c. EndsBySeed script.now self seed c) }
     {

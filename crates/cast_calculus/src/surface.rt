@@ -1,5 +1,5 @@
 ghost use Rattle.std.specs.Prelude.{◌≡◌, IfOk};
-ghost use Rattle.mono_tree.specs.WellTyped.{IsWellTypedProgram};
+ghost use Rattle.mono_tree.specs.TypedPrograms.{IsTypedProgram};
 ghost use Rattle.cast_machine.specs.Step.{is_runnable, picked, observed};
 ghost use Rattle.cast_machine.specs.Typing.{IsWellTyped};
 ghost use Rattle.cast_calculus.specs.Runnable.{can_step};
@@ -15,7 +15,7 @@ pub fn runnable(c: &Config, thread: u32) -> bool
     ensures can { result ≡ can_step c.now thread }
 
     // In every configuration of a run of a well-typed script that is to have a step.
-    ensures steps { (p : CastScript) → IsWellTypedProgram p → IsWellTyped p c.now → result ≡ is_runnable p c.now thread }
+    ensures steps { (p : CastScript) → IsTypedProgram p → IsWellTyped p c.now → result ≡ is_runnable p c.now thread }
 {
     c.can_step(thread)
 }

@@ -13,7 +13,7 @@ use Rattle.mono_tree.proofs.TypeLaws.{bytes_eq-same, precise_refl}
 use Rattle.mono_tree.specs.BodyEnds.{may_end}
 use Rattle.mono_tree.specs.CastScripts.{params_of, result_of}
 use Rattle.mono_tree.specs.Precision.{precise, precise_all}
-use Rattle.mono_tree.specs.WellTyped.{CallUse, EndUse, IsWellTypedProgram, Scope, scope_of, type_of_name}
+use Rattle.mono_tree.specs.TypedPrograms.{CallUse, EndUse, IsTypedProgram, Scope, scope_of, type_of_name}
 use Rattle.cast_machine.proofs.Blames.{has_free}
 use Rattle.cast_machine.proofs.Fitting.{has_lower}
 use Rattle.cast_machine.proofs.Grows.{MoreResults, extends_refl, handles_grow, stack_grows, started_grow}
@@ -56,7 +56,7 @@ end_work p s a k true i e = i
 end_work p s a k false i e = absurd (false≢true e)
 
 -- the first frame of a call
-called_ok : (p : CastScript) → IsWellTypedProgram p → (h : Heap) (rs : List Ty) (me : ℕ) (g : ℕ) (M : Ty) (i : IsFunctionOf p g M) (args : List Val) (ts : List Ty) → AreAllPrecise ts (params_of M) → AreTyped p h args ts → IsWellTypedFrame p rs me h (called i.function M args)
+called_ok : (p : CastScript) → IsTypedProgram p → (h : Heap) (rs : List Ty) (me : ℕ) (g : ℕ) (M : Ty) (i : IsFunctionOf p g M) (args : List Val) (ts : List Ty) → AreAllPrecise ts (params_of M) → AreTyped p h args ts → IsWellTypedFrame p rs me h (called i.function M args)
 called_ok p pok h rs me g M i args ts al vok =
     let d = i.function in
     let dok = pok.functions g d i.at in
@@ -142,7 +142,7 @@ call_count p k ks F args T i = absurd i
 below_limit : (n : ℕ) → nat_le 256 n ≡ false → n < 256
 below_limit n e = grind arith
 
-module _ (p : CastScript) (pok : IsWellTypedProgram p) (h : Heap) (threads : List Thread) (s : Scope) (rs : List Ty) (me : ℕ) (R : Ty) (f : Frame) (below : List Frame) (ok : HereOk p h threads s rs me R f below) where
+module _ (p : CastScript) (pok : IsTypedProgram p) (h : Heap) (threads : List Thread) (s : Scope) (rs : List Ty) (me : ℕ) (R : Ty) (f : Frame) (below : List Frame) (ok : HereOk p h threads s rs me R f below) where
   abbrev Ok : Outcome → Type 0
   Ok o = MoveOk p rs me h R o
 

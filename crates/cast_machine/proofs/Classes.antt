@@ -14,7 +14,7 @@ use Rattle.mono_tree.proofs.TypeLaws.{bytes_eq-refl}
 use Rattle.mono_tree.specs.CastScripts.{fields_of}
 use Rattle.mono_tree.specs.FieldNames.{names_of}
 use Rattle.mono_tree.specs.IsType.{AreInOrder, IsBefore, IsType}
-use Rattle.mono_tree.specs.WellTyped.{HasField, IsWellTypedClass}
+use Rattle.mono_tree.specs.TypedPrograms.{HasField, IsWellTypedClass}
 
 -- x is one of the names
 abbrev pub Has : List (List ℕ) → List ℕ → Type 0

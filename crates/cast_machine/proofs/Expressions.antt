@@ -16,7 +16,7 @@ use Rattle.mono_syntax.specs.declared.value.Val.TheVariants as val
 use Rattle.mono_tree.proofs.TypeLaws.{precise_refl, static_same}
 use Rattle.mono_tree.specs.CastScripts.{sites_of, values_of}
 use Rattle.mono_tree.specs.Sites.{HasSite, IsSite}
-use Rattle.mono_tree.specs.WellTyped.{Arithmetic, DynSum, FieldUse, HasStaticType, IsOfType, IsWellTypedProgram, OnIntegers, OperatorUse, Scope, type_of_name}
+use Rattle.mono_tree.specs.TypedPrograms.{Arithmetic, DynSum, FieldUse, HasStaticType, IsOfType, IsTypedProgram, OnIntegers, OperatorUse, Scope, type_of_name}
 use Rattle.cast_machine.proofs.Blames.{has_free}
 use Rattle.cast_machine.proofs.Fitting.{has_lower}
 use Rattle.cast_machine.proofs.Grows.{cell_typed}
@@ -175,12 +175,12 @@ module _ (p : CastScript) (h : Heap) (threads : List Thread) (s : Scope) (rs : L
   pub join_row : (ts : List Ty) → AreTyped p h f.values ts → (t : ℕ) → IsWellTypedJoin p (around s f.asked rs me) [] f.work t ts → WaitOk p rs me threads h R (join_of (finished threads t) f below)
   join_row ts vok t j = join_ok ts vok t j (finished threads t) refl
 
-  function_has : IsWellTypedProgram p → (g : ℕ) (d : CastFunction) → slice_get p.functions g ≡ Some d → IsTyped p h (val.Fun g d.ty) d.ty
+  function_has : IsTypedProgram p → (g : ℕ) (d : CastFunction) → slice_get p.functions g ≡ Some d → IsTyped p h (val.Fun g d.ty) d.ty
   function_has pok g d e =
       let typed = pok.functions g d e in
       (record { function = d; at = e; low = precise_refl d.ty }, subst (λ (U : Ty). HasType h (val.Fun g U) U) (sym typed.type) (precise_refl (fun typed.parameters typed.result)))
 
-  pub eval_ok : IsWellTypedProgram p → (ts : List Ty) → AreTyped p h f.values ts → (e : CastExpr) (T : Ty) → HasStaticType p s e T → IsWellTypedWork p s f.asked f.work (T ∷ ts) → MoveOk p rs me h R (eval p e f below)
+  pub eval_ok : IsTypedProgram p → (ts : List Ty) → AreTyped p h f.values ts → (e : CastExpr) (T : Ty) → HasStaticType p s e T → IsWellTypedWork p s f.asked f.work (T ∷ ts) → MoveOk p rs me h R (eval p e f below)
   eval_ok pok ts vok (expr.number n) T t i = push_at ts vok (literal n) int T t.1 (literal_in_range n, tt) i
   eval_ok pok ts vok (expr.text x) T t i = push_at ts vok (val.Text x) str T t (tt, tt) i
   eval_ok pok ts vok (expr.truth b) T t i = push_at ts vok (val.Bool b) bool T t (tt, tt) i

@@ -1,7 +1,7 @@
 -- What a fit says, and what a changed cell keeps.
-use Rattle.std.proofs.Common.{Bool, List, None, Option, Some, [], ap, ap₂, arith, bytes_eq, false, inl, inr, refl, subst, sym, true, ℕ, ⊎_elim, ◌&&◌, ◌∙◌, ◌∷◌, ◌≡◌}
+use Rattle.std.proofs.Common.{Bool, List, None, Option, Some, [], ap, ap₂, arith, bytes_eq, false, if◌then◌else◌, inl, inr, nat_eq, refl, subst, sym, true, ℕ, ⊎_elim, ◌&&◌, ◌∙◌, ◌∷◌, ◌≡◌}
 use Rattle.std.proofs.lemmas.Bool.{and_from, and_parts, false≢true}
-use Rattle.mono_list.proofs.Cases.{some_is}
+use Rattle.mono_list.proofs.Cases.{none_some, some_is, split}
 use Rattle.mono_syntax.specs.Ty.{Fields, Ty, bool, dyn, fun, int, more_fields, nil, no_fields, obj, str}
 use Rattle.mono_syntax.specs.declared.cast.CastScript.{CastScript}
 use Rattle.mono_syntax.specs.declared.value.Val.{Val}
@@ -9,11 +9,11 @@ use Rattle.mono_syntax.specs.declared.value.Val.TheVariants as val
 use Rattle.mono_tree.proofs.TypeLaws.{bytes_eq-refl, bytes_eq-same, meet_at, meet_below, precise_names, precise_refl, precise_trans}
 use Rattle.mono_tree.specs.CastScripts.{class_names, fields_of}
 use Rattle.mono_tree.specs.FieldNames.{names_of}
-use Rattle.mono_tree.specs.Meet.{meet}
+use Rattle.mono_tree.specs.Meet.{meet_of}
 use Rattle.mono_tree.specs.Precision.{precise, precise_fields}
-use Rattle.mono_tree.specs.WellTyped.{HasField}
+use Rattle.mono_tree.specs.TypedPrograms.{HasField}
 use Rattle.cast_machine.proofs.Grows.{HeapOk, below_lower, cell_typed, has_grows}
-use Rattle.cast_machine.proofs.Heap.{cell-set, cell-set_cases, shape-set}
+use Rattle.cast_machine.proofs.Heap.{cell-set, cell-set_cases, shape-set, shown_cell}
 use Rattle.cast_machine.specs.Cells.{holds}
 use Rattle.cast_machine.specs.Fits.{fit_fun, fit_obj, fit_of, names_same}
 use Rattle.cast_machine.specs.Heap.{Heap, cell_at, cell_in, object_at, set_cell, shape_at, shape_in}
@@ -102,7 +102,7 @@ FitOk p h v T (fits.Holds u) = IsTyped p h u T
 FitOk p h v T (fits.Opens c b) = (v ≡ val.Obj c b) × (T ≡ obj (fields_of T)) × (shape_at h b ≡ Some (c, names_of (fields_of T)))
 FitOk p h v T fits.Unfit = IsTyped p h v T → ⊥
 
-fun_fit : (p : CastScript) (h : Heap) (g : ℕ) (m T : Ty) (isf : IsFunctionOf p g m) (is : (u : Ty) → IsAsPrecise u T → HasType h (val.Fun g u) T) (back : HasType h (val.Fun g m) T → IsAsPrecise m T) (o : Option Ty) → meet m T ≡ o → FitOk p h (val.Fun g m) T (fit_fun g o)
+fun_fit : (p : CastScript) (h : Heap) (g : ℕ) (m T : Ty) (isf : IsFunctionOf p g m) (is : (u : Ty) → IsAsPrecise u T → HasType h (val.Fun g u) T) (back : HasType h (val.Fun g m) T → IsAsPrecise m T) (o : Option Ty) → meet_of m T ≡ o → FitOk p h (val.Fun g m) T (fit_fun g o)
 fun_fit p h g m T isf is back None e = λ i. let d : None ≡ Some m = sym e ∙ meet_at m T (back i.1) in absurd cc
 fun_fit p h g m T isf is back (Some u) e = (record { function = isf.function; at = isf.at; low = precise_trans u m ((isf.function).ty) (meet_below m T u e).0 isf.low }, is u (meet_below m T u e).1)
 
@@ -114,7 +114,7 @@ obj_fit p h ok c a fs i false e = λ has.
 
 pub fit_ok : (p : CastScript) (h : Heap) → HeapOk p h → (v : Val) (T : Ty) → IsValueOf p h v → FitOk p h v T (fit_of p v T)
 fit_ok p h ok v dyn i = (i, tt)
-fit_ok p h ok (val.Fun g m) (fun ps r) i = fun_fit p h g m (fun ps r) i (λ u e. e) (λ e. e) (meet m (fun ps r)) refl
+fit_ok p h ok (val.Fun g m) (fun ps r) i = fun_fit p h g m (fun ps r) i (λ u e. e) (λ e. e) (meet_of m (fun ps r)) refl
 fit_ok p h ok (val.Obj c a) (obj fs) i = obj_fit p h ok c a fs i (names_same (class_names p c) (names_of fs)) refl
 fit_ok p h ok (val.Int n) int i = (i, tt)
 fit_ok p h ok (val.Bool b) bool i = (tt, tt)
@@ -142,12 +142,15 @@ has_key {A = A} (q ∷ l) (more_fields n T fs) f U e i = go (λ j. has_key l fs 
         (λ later. let z = ih later in (z.0, rw d z.1))
         i
 
-pub shape_keys : (q : Option Object) (c : ℕ) (ns : List (List ℕ)) → shape_in q ≡ Some (c, ns) → (o : Object) × (q ≡ Some o) × (keys o.cells ≡ ns)
+pub shape_keys : (q : Option Object) (c : ℕ) (ns : List (List ℕ)) → shape_in q ≡ Some (c, ns) → (o : Object) × (q ≡ Some o) × (keys o.cells ≡ ns) × (nat_eq o.waits 0 ≡ true)
 shape_keys None c ns e = absurd cc
-shape_keys (Some o) c ns e = (o, refl, ap (λ (s : ℕ × List (List ℕ)). s.1) (some_is e))
+shape_keys (Some o) c ns e =
+    let shape : Option (ℕ × List (List ℕ)) = Some (o.class, keys o.cells) in
+    split (nat_eq o.waits 0) (λ t. (if t then shape else None) ≡ Some (c, ns) → nat_eq o.waits 0 ≡ t → (u : Object) × (Some o ≡ Some u) × (keys u.cells ≡ ns) × (nat_eq u.waits 0 ≡ true))
+    (λ _ i w. (o, refl, ap (λ (s : ℕ × List (List ℕ)). s.1) (some_is i), w)) (λ _ i w. none_some _ i) e refl
 
 pub shape_cell : (h : Heap) (a c : ℕ) (fs : Fields) (f : List ℕ) (U : Ty) → shape_at h a ≡ Some (c, names_of fs) → HasField fs f U → (x : Cell) × (cell_at h a f ≡ Some x)
 shape_cell h a c fs f U e i =
     let s = shape_keys (object_at h a) c (names_of fs) e in
     let k = has_key (s.0).cells fs f U s.2 i in
-    (k.0, ap (λ q. cell_in q f) s.1 ∙ k.1)
+    (k.0, ap (λ q. cell_in q f) s.1 ∙ shown_cell s.0 f k.0 s.3 k.1)

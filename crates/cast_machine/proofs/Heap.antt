@@ -1,6 +1,6 @@
 -- Frame lemmas: what a changed cell and a new object leave as it was.
 use Rattle.std.proofs.Common.{Bool, List, None, Option, Some, [], ap, arith, bytes_eq, false, if◌then◌else◌, inl, inr, length, max, nat_eq, refl, subst, suc, sym, true, ℕ, ⊎_elim, ◌++◌, ◌-◌, ◌∙◌, ◌∷◌, ◌≡◌, ◌⊎◌}
-use Rattle.mono_list.proofs.Cases.{split}
+use Rattle.mono_list.proofs.Cases.{none_some, split}
 use Rattle.mono_tree.proofs.TypeLaws.{bytes_eq-same}
 use Rattle.cast_machine.specs.Heap.{Heap, cell_at, cell_in, heap_size, object_at, set_cell, set_in, set_object, shape_at, shape_in, size}
 use Rattle.cast_machine.specs.Maps.{keys, lookup, update}
@@ -76,25 +76,31 @@ object-split [] a o new e = grind arith
 object-split (x ∷ h) a o new e = grind (arith, object-split h (a - size x) o new)
 
 -- a changed cell
-set_in_object : (h : Heap) (a : ℕ) (f : List ℕ) (c : Cell) (o : Object) → object_at h a ≡ Some o → object_at (set_cell h a f c) a ≡ Some (record { class = o.class; cells = update o.cells f c })
-set_in_object h a f c o e = ap (λ q. object_at (set_in h a f c q) a) e ∙ object-set h a o (record { class = o.class; cells = update o.cells f c }) e
+set_in_object : (h : Heap) (a : ℕ) (f : List ℕ) (c : Cell) (o : Object) → object_at h a ≡ Some o → object_at (set_cell h a f c) a ≡ Some (record o { cells = update o.cells f c })
+set_in_object h a f c o e = ap (λ q. object_at (set_in h a f c q) a) e ∙ object-set h a o (record o { cells = update o.cells f c }) e
 
-size_update : (o : Object) (f : List ℕ) (c : Cell) → size (record { class = o.class; cells = update o.cells f c }) ≡ size o
+size_update : (o : Object) (f : List ℕ) (c : Cell) → size (record o { cells = update o.cells f c }) ≡ size o
 size_update o f c = ap (max 1) (length-update o.cells f c)
 
 other_object : (h : Heap) (a b : ℕ) (f : List ℕ) (c : Cell) (o : Object) → nat_eq a b ≡ false → object_at h a ≡ Some o → object_at (set_cell h a f c) b ≡ object_at h b
-other_object h a b f c o d e = ap (λ q. object_at (set_in h a f c q) b) e ∙ object-set_other h a b o (record { class = o.class; cells = update o.cells f c }) d e (size_update o f c)
+other_object h a b f c o d e = ap (λ q. object_at (set_in h a f c q) b) e ∙ object-set_other h a b o (record o { cells = update o.cells f c }) d e (size_update o f c)
 
 -- a cell is in an object
-pub cell_object : (q : Option Object) (f : List ℕ) (c : Cell) → cell_in q f ≡ Some c → (o : Object) × (q ≡ Some o) × (lookup o.cells f ≡ Some c)
+pub cell_object : (q : Option Object) (f : List ℕ) (c : Cell) → cell_in q f ≡ Some c → (o : Object) × (q ≡ Some o) × (lookup o.cells f ≡ Some c) × (nat_eq o.waits 0 ≡ true)
 cell_object None f c e = absurd cc
-cell_object (Some o) f c e = (o, refl, e)
+cell_object (Some o) f c e =
+    split (nat_eq o.waits 0) (λ t. (if t then lookup o.cells f else None) ≡ Some c → nat_eq o.waits 0 ≡ t → (u : Object) × (Some o ≡ Some u) × (lookup u.cells f ≡ Some c) × (nat_eq u.waits 0 ≡ true))
+    (λ _ i w. (o, refl, i, w)) (λ _ i w. none_some _ i) e refl
+
+-- an object that waits for nothing shows its cells
+pub shown_cell : (o : Object) (f : List ℕ) (c : Cell) → nat_eq o.waits 0 ≡ true → lookup o.cells f ≡ Some c → cell_in (Some o) f ≡ Some c
+shown_cell o f c w e = ap (λ t. if t then lookup o.cells f else None) w ∙ e
 
 shape_same : (h : Heap) (a : ℕ) (f : List ℕ) (c : Cell) (o : Object) → object_at h a ≡ Some o → (b : ℕ) (t : Bool) → nat_eq a b ≡ t → shape_at (set_cell h a f c) b ≡ shape_at h b
 shape_same h a f c o e b true d =
     let same = nat_eq-same a b d in
     subst (λ k. shape_at (set_cell h a f c) k ≡ shape_at h k) same
-    (ap shape_in (set_in_object h a f c o e) ∙ ap (λ ns. Some (o.class, ns)) (keys-update o.cells f c) ∙ sym (ap shape_in e))
+    (ap shape_in (set_in_object h a f c o e) ∙ ap (λ ns. if nat_eq o.waits 0 then Some (o.class, ns) else None) (keys-update o.cells f c) ∙ sym (ap shape_in e))
 shape_same h a f c o e b false d = ap shape_in (other_object h a b f c o d e)
 
 pub shape-set : (h : Heap) (a : ℕ) (f : List ℕ) (c d : Cell) → cell_at h a f ≡ Some d → (b : ℕ) → shape_at (set_cell h a f c) b ≡ shape_at h b
@@ -103,16 +109,16 @@ shape-set h a f c d e b = let x = cell_object (object_at h a) f d e in shape_sam
 pub cell-set : (h : Heap) (a : ℕ) (f : List ℕ) (c d : Cell) → cell_at h a f ≡ Some d → cell_at (set_cell h a f c) a f ≡ Some c
 cell-set h a f c d e =
     let x = cell_object (object_at h a) f d e in
-    ap (λ q. cell_in q f) (set_in_object h a f c x.0 x.1) ∙ lookup-update (x.0).cells f c d x.2
+    ap (λ q. cell_in q f) (set_in_object h a f c x.0 x.1) ∙ shown_cell (record x.0 { cells = update (x.0).cells f c }) f c x.3 (lookup-update (x.0).cells f c d x.2)
 
 -- another cell stays
 cell_other_field : (h : Heap) (a : ℕ) (f g : List ℕ) (c : Cell) (o : Object) → object_at h a ≡ Some o → bytes_eq f g ≡ false → cell_at (set_cell h a f c) a g ≡ cell_at h a g
-cell_other_field h a f g c o e d = ap (λ q. cell_in q g) (set_in_object h a f c o e) ∙ lookup-update_other o.cells f g c d ∙ sym (ap (λ q. cell_in q g) e)
+cell_other_field h a f g c o e d = ap (λ q. cell_in q g) (set_in_object h a f c o e) ∙ ap (λ z. if nat_eq o.waits 0 then z else None) (lookup-update_other o.cells f g c d) ∙ sym (ap (λ q. cell_in q g) e)
 
 pub cell-set_cases : (h : Heap) (a : ℕ) (f : List ℕ) (c d : Cell) → cell_at h a f ≡ Some d → (b : ℕ) (g : List ℕ) → ((a ≡ b) × (f ≡ g)) ⊎ (cell_at (set_cell h a f c) b g ≡ cell_at h b g)
 cell-set_cases h a f c d e b g = go (nat_eq a b) (bytes_eq f g) refl refl
   where
-    x : (o : Object) × (object_at h a ≡ Some o) × (lookup o.cells f ≡ Some d)
+    x : (o : Object) × (object_at h a ≡ Some o) × (lookup o.cells f ≡ Some d) × (nat_eq o.waits 0 ≡ true)
     x = cell_object (object_at h a) f d e
 
     go : (s t : Bool) → nat_eq a b ≡ s → bytes_eq f g ≡ t → ((a ≡ b) × (f ≡ g)) ⊎ (cell_at (set_cell h a f c) b g ≡ cell_at h b g)
@@ -129,13 +135,13 @@ pub shape-more : (h : Heap) (new : Object) (a : ℕ) (s : ℕ × List (List ℕ)
 shape-more h new a s e = let x = shape_object (object_at h a) s e in ap shape_in (object-more h a x.0 new x.1) ∙ x.2
 
 pub cell-more : (h : Heap) (new : Object) (a : ℕ) (f : List ℕ) (c : Cell) → cell_at h a f ≡ Some c → cell_at (h ++ new ∷ []) a f ≡ Some c
-cell-more h new a f c e = let x = cell_object (object_at h a) f c e in ap (λ q. cell_in q f) (object-more h a x.0 new x.1) ∙ x.2
+cell-more h new a f c e = let x = cell_object (object_at h a) f c e in ap (λ q. cell_in q f) (object-more h a x.0 new x.1) ∙ shown_cell x.0 f c x.3 x.2
 
 pub cell-split : (h : Heap) (new : Object) (a : ℕ) (f : List ℕ) (c : Cell) → cell_at (h ++ new ∷ []) a f ≡ Some c → (cell_at h a f ≡ Some c) ⊎ ((a ≡ heap_size h) × (lookup new.cells f ≡ Some c))
 cell-split h new a f c e =
     let x = cell_object (object_at (h ++ new ∷ []) a) f c e in
     ⊎_elim
-    (λ old. inl (ap (λ q. cell_in q f) old ∙ x.2))
+    (λ old. inl (ap (λ q. cell_in q f) old ∙ shown_cell x.0 f c x.3 x.2))
     (λ n. inr (n.0, ap (λ (o : Object). lookup o.cells f) (sym n.1) ∙ x.2))
     (object-split h a x.0 new x.1)
 

@@ -10,7 +10,7 @@ use Rattle.mono_syntax.specs.declared.value.Val.TheVariants as val
 use Rattle.mono_tree.proofs.TypeLaws.{bytes_eq-refl, bytes_eq-same, precise_refl}
 use Rattle.mono_tree.specs.CastScripts.{class_names, fields_in, fields_of}
 use Rattle.mono_tree.specs.FieldNames.{names_of}
-use Rattle.mono_tree.specs.WellTyped.{FieldArguments, HasField, IsWellTypedProgram, NewUse, Scope}
+use Rattle.mono_tree.specs.TypedPrograms.{FieldArguments, HasField, IsTypedProgram, NewUse, Scope}
 use Rattle.cast_machine.proofs.Classes.{ClassOk, Has, class_ok}
 use Rattle.cast_machine.proofs.Fitting.{has_lower}
 use Rattle.cast_machine.proofs.Grows.{HeapOk, cell_typed, has_grows, names_grow, stack_grows, values_grow}
@@ -89,7 +89,7 @@ made p h (more_fields n T fs) given each =
 module _ (p : CastScript) (h : Heap) (threads : List Thread) (s : Scope) (rs : List Ty) (me : ℕ) (R : Ty) (f : Frame) (below : List Frame) (ok : HereOk p h threads s rs me R f below) (room : ℕ) (vs : List Val) (ts : List Ty) (vok : AreTyped p h vs ts) (cl : ℕ) (T : Ty) (w : IsWellTypedWork p s f.asked f.work (T ∷ ts)) (d : CastClass) (cok : ClassOk d) (at : slice_get p.classes cl ≡ Some d) (type : T ≡ d.ty) where
   module _ (given : List (List ℕ × Val)) (m : Made p h (fields_of d.ty) given) where
     abbrev o : Object
-    o = record { class = cl; cells = m.cells }
+    o = record { class = cl; cells = m.cells; waits = 0; maker = 0 }
 
     abbrev heap' : Heap
     heap' = h ++ o ∷ []
@@ -167,7 +167,7 @@ arguments_length fs [] [] i = refl
 arguments_length fs (n ∷ ns) (A ∷ ts) i = ap suc (arguments_length fs ns ts i.1)
 arguments_length fs ns ts i = absurd i
 
-pub new_ok : (p : CastScript) (pok : IsWellTypedProgram p) (h : Heap) (threads : List Thread) (s : Scope) (rs : List Ty) (me : ℕ) (R : Ty) (f : Frame) (below : List Frame) (ok : HereOk p h threads s rs me R f below) (room cl : ℕ) (arguments us : List Ty) (T : Ty) → NewUse p cl arguments T → AreTyped p h f.values (push_all arguments us) → IsWellTypedWork p s f.asked f.work (T ∷ us) → MoveOk p rs me h R (new_at room h cl (slice_get p.classes cl) f below)
+pub new_ok : (p : CastScript) (pok : IsTypedProgram p) (h : Heap) (threads : List Thread) (s : Scope) (rs : List Ty) (me : ℕ) (R : Ty) (f : Frame) (below : List Frame) (ok : HereOk p h threads s rs me R f below) (room cl : ℕ) (arguments us : List Ty) (T : Ty) → NewUse p cl arguments T → AreTyped p h f.values (push_all arguments us) → IsWellTypedWork p s f.asked f.work (T ∷ us) → MoveOk p rs me h R (new_at room h cl (slice_get p.classes cl) f below)
 new_ok p pok h threads s rs me R f below ok room cl arguments us T n vok w =
     let d = n.class in
     let c = class_ok d (pok.classes cl d n.at) in

@@ -9,10 +9,10 @@ use Rattle.mono_syntax.specs.declared.value.Val.TheVariants as val
 use Rattle.mono_tree.proofs.TypeLaws.{meet_below, precise_antisym}
 use Rattle.mono_tree.specs.CastScripts.{fields_of}
 use Rattle.mono_tree.specs.FieldNames.{names_of}
-use Rattle.mono_tree.specs.Meet.{meet}
+use Rattle.mono_tree.specs.Meet.{meet_of}
 use Rattle.mono_tree.specs.Precision.{precise}
 use Rattle.mono_tree.specs.Sites.{loses_precision}
-use Rattle.mono_tree.specs.WellTyped.{HasField, Scope}
+use Rattle.mono_tree.specs.TypedPrograms.{HasField, Scope}
 use Rattle.cast_machine.proofs.Fitting.{FitOk, extends_set, fit_ok, heap_set, shape_cell}
 use Rattle.cast_machine.proofs.Grows.{HeapOk, cell_typed, extends_refl, names_grow, stack_grows, top_grows, values_grow}
 use Rattle.cast_machine.proofs.Heap.{cell-set, on_test}
@@ -295,7 +295,7 @@ module _ (p : CastScript) (h : Heap) (threads : List Thread) (s : Scope) (rs : L
   rest = top_rest p q h cl a x T ready f.work f.values ts tok
 
   -- the cell becomes (M, v)
-  obligation_sets : (d : Cell) → cell_at h a x ≡ Some d → (M : Ty) → meet d.ty T ≡ Some M → (v : Val) → IsTyped p h v M → At (verdict.Sets (holds M v) f)
+  obligation_sets : (d : Cell) → cell_at h a x ≡ Some d → (M : Ty) → meet_of d.ty T ≡ Some M → (v : Val) → IsTyped p h v M → At (verdict.Sets (holds M v) f)
   obligation_sets d at M e v has =
       let m = meet_below d.ty T M e in
       let g = extends_set h a x d M v at m.0 in
@@ -303,7 +303,7 @@ module _ (p : CastScript) (h : Heap) (threads : List Thread) (s : Scope) (rs : L
       sets_new p h threads s rs me R f below ok a x (holds M v) g (heap_set p h a x d M v at m.0 has ok.heap) f.work f.values ts vok
       (met p q h' a x T f.work f.values ts (record { cell = holds M v; at = cell-set h a x (holds M v) d at; low = m.1 }) (top_grows p q rs (λ t U i. i) g _ f.work f.values ts rest.1))
 
-  strengthen_ok : (d : Cell) → cell_at h a x ≡ Some d → precise d.ty T ≡ false → (M : Ty) → meet d.ty T ≡ Some M → (o : Fit) → FitOk p h d.value M o → At (strengthen cl a x T ready f d M o)
+  strengthen_ok : (d : Cell) → cell_at h a x ≡ Some d → precise d.ty T ≡ false → (M : Ty) → meet_of d.ty T ≡ Some M → (o : Fit) → FitOk p h d.value M o → At (strengthen cl a x T ready f d M o)
   strengthen_ok d at isnt M e fits.Unfit i = blaming_ok p h threads s rs me R f below ok a x (blamed f.work) (free_below p h (blamed f.work) a x T d at isnt (rest.0).blame)
   strengthen_ok d at isnt M e (fits.Holds v) i = obligation_sets d at M e v i
   strengthen_ok d at isnt M e (fits.Opens k b) i =
@@ -314,7 +314,7 @@ module _ (p : CastScript) (h : Heap) (threads : List Thread) (s : Scope) (rs : L
       (λ g U m. not_free p h (blamed f.work) a x T d at isnt (rest.0).blame b g U)
       (λ left o. (rest.0, o, rest.1))))
 
-  meets_ok : (d : Cell) → cell_at h a x ≡ Some d → precise d.ty T ≡ false → (o : Option Ty) → meet d.ty T ≡ o → At (meets p cl a x T ready f d o)
+  meets_ok : (d : Cell) → cell_at h a x ≡ Some d → precise d.ty T ≡ false → (o : Option Ty) → meet_of d.ty T ≡ o → At (meets p cl a x T ready f d o)
   meets_ok d at isnt None e = blaming_ok p h threads s rs me R f below ok a x (blamed f.work) (free_below p h (blamed f.work) a x T d at isnt (rest.0).blame)
   meets_ok d at isnt (Some M) e = strengthen_ok d at isnt M e (fit_of p d.value M) (fit_ok p h ok.heap d.value M (cell_typed ok.heap a x d at).0)
 
@@ -323,7 +323,7 @@ module _ (p : CastScript) (h : Heap) (threads : List Thread) (s : Scope) (rs : L
   cell_ok (Some d) e =
       on_test (precise d.ty T) _ _ At
       (λ yes. goes_ok p h threads s rs me R f below ok f.work f.values ts vok (met p q h a x T f.work f.values ts (record { cell = d; at = e; low = yes }) rest.1))
-      (λ isnt. meets_ok d e isnt (meet d.ty T) refl)
+      (λ isnt. meets_ok d e isnt (meet_of d.ty T) refl)
 
   pub obligation_ok : MoveOk p rs me h R (obligation_step p h cl a x T ready f below)
   obligation_ok = cell_ok (cell_at h a x) refl

@@ -4,7 +4,7 @@ use Rattle.std.proofs.lemmas.Bool.{false≢true}
 use Rattle.std.proofs.lemmas.Option.{slice_get_past, slice_get_within}
 use Rattle.mono_list.proofs.Cases.{none_some, some_is, split}
 use Rattle.mono_syntax.specs.declared.cast.CastScript.{CastScript}
-use Rattle.mono_tree.specs.WellTyped.{IsWellTypedProgram}
+use Rattle.mono_tree.specs.TypedPrograms.{IsTypedProgram}
 use Rattle.cast_machine.proofs.Heap.{nat_eq-same}
 use Rattle.cast_machine.proofs.ThreadLists.{results_back}
 use Rattle.cast_machine.proofs.Threads.{Rests, StepOk, step_ok}
@@ -17,7 +17,7 @@ use Rattle.cast_machine.specs.declared.data.State.TheVariants as state
 use Rattle.cast_machine.specs.declared.data.Thread.{Thread}
 
 -- where no thread has a step and no end is recorded, all are finished, the last ones first
-module _ (p : CastScript) (pok : IsWellTypedProgram p) (c : Configuration) (ok : IsWellTyped p c) (e : c.end ≡ None) (none : (t : ℕ) → step_of p c t ≡ None) where
+module _ (p : CastScript) (pok : IsTypedProgram p) (c : Configuration) (ok : IsWellTyped p c) (e : c.end ≡ None) (none : (t : ℕ) → step_of p c t ≡ None) where
   abbrev IsFinished : State → Type 0
   IsFinished (state.Finished v) = Unit {0}
   IsFinished st = ⊥
@@ -59,7 +59,7 @@ module _ (p : CastScript) (pok : IsWellTypedProgram p) (c : Configuration) (ok :
       go (state.Failing x) i l = i
       go state.Stopped i l = i
 
-pub not_stuck : (p : CastScript) (pok : IsWellTypedProgram p) (c : Configuration) → IsWellTyped p c → IsStuck p c → ⊥
+pub not_stuck : (p : CastScript) (pok : IsTypedProgram p) (c : Configuration) → IsWellTyped p c → IsStuck p c → ⊥
 not_stuck p pok c ok (no_row t th f below at st w e) =
     let i : StepOk p c t None = subst (λ o. StepOk p c t o) e (step_ok p pok c ok t) in
     let r : Rests c t (state.Running f below) = subst (Rests c t) st (i th at) in
@@ -115,7 +115,7 @@ runnable_steps p c (th ∷ ths) n k t e =
     e
 
 -- some thread is runnable
-pub progress : (p : CastScript) (pok : IsWellTypedProgram p) (c : Configuration) → IsWellTyped p c → c.end ≡ None → 0 < length (runnable_threads p c)
+pub progress : (p : CastScript) (pok : IsTypedProgram p) (c : Configuration) → IsWellTyped p c → c.end ≡ None → 0 < length (runnable_threads p c)
 progress p pok c ok e = go (runnable_threads p c) refl
   where
     go : (r : List ℕ) → runnable_threads p c ≡ r → 0 < length r

@@ -5,7 +5,7 @@ use Rattle.std.proofs.lemmas.Bool.{false≢true}
 use Rattle.mono_list.proofs.Cases.{none_some, some_is}
 use Rattle.mono_syntax.specs.Ty.{Ty}
 use Rattle.mono_syntax.specs.declared.cast.CastScript.{CastScript}
-use Rattle.mono_tree.specs.WellTyped.{IsWellTypedProgram}
+use Rattle.mono_tree.specs.TypedPrograms.{IsTypedProgram}
 use Rattle.cast_machine.proofs.Heap.{on_test}
 use Rattle.cast_machine.proofs.Obligations.{BegunOk, Kept, heap_after, results_after}
 use Rattle.cast_machine.proofs.Rows.{ActOk, act_ok}
@@ -121,7 +121,7 @@ abbrev pub StepFalls : Configuration → Option Configuration → Type 0
 StepFalls c None = Unit {0}
 StepFalls c (Some after) = rank after < rank c
 
-module _ (p : CastScript) (pok : IsWellTypedProgram p) (c : Configuration) (ok : IsWellTyped p c) (t : ℕ) where
+module _ (p : CastScript) (pok : IsTypedProgram p) (c : Configuration) (ok : IsWellTyped p c) (t : ℕ) where
   abbrev fuel : ℕ
   fuel = c.settings.fuel
 

@@ -3,7 +3,7 @@ use Rattle.std.proofs.Common.{List, None, Some, [], length, refl, subst, true, �
 use Rattle.mono_syntax.specs.Ty.{Ty, dyn, nil}
 use Rattle.mono_syntax.specs.declared.cast.CastScript.{CastScript}
 use Rattle.mono_syntax.specs.declared.value.Val.TheVariants as val
-use Rattle.mono_tree.specs.WellTyped.{IsWellTypedProgram, Scope}
+use Rattle.mono_tree.specs.TypedPrograms.{IsTypedProgram, Scope}
 use Rattle.cast_machine.proofs.CallRows.{begin_ok, call_ok, enter_ok, leave_ok, print_ok}
 use Rattle.cast_machine.proofs.Expressions.{binary_ok, eval_ok, join_row, neg_ok, not_ok, read_row, short_ok}
 use Rattle.cast_machine.proofs.NewObjects.{new_ok}
@@ -31,7 +31,7 @@ ActOk p rs me threads h R items outcome.NoRow = ⊥
 ActOk p rs me threads h R items outcome.Waits = (is_wait items ≡ true) × ((t : ℕ) × IsLater rs me t dyn × (finished threads t ≡ None))
 ActOk p rs me threads h R items (outcome.Moves d st) = Kept p rs me h R d st
 
-module _ (p : CastScript) (pok : IsWellTypedProgram p) (c : Configuration) (s : Scope) (rs : List Ty) (me : ℕ) (R : Ty) (f : Frame) (below : List Frame) (ok : HereOk p c.heap c.threads s rs me R f below) where
+module _ (p : CastScript) (pok : IsTypedProgram p) (c : Configuration) (s : Scope) (rs : List Ty) (me : ℕ) (R : Ty) (f : Frame) (below : List Frame) (ok : HereOk p c.heap c.threads s rs me R f below) where
   abbrev h : Heap
   h = c.heap
 

@@ -4,7 +4,7 @@ use Rattle.std.proofs.lemmas.Bool.{false≢true}
 use Rattle.mono_list.proofs.Cases.{none_some, some_is}
 use Rattle.mono_syntax.specs.Ty.{dyn}
 use Rattle.mono_syntax.specs.declared.cast.CastScript.{CastScript}
-use Rattle.mono_tree.specs.WellTyped.{IsWellTypedProgram, scope_of}
+use Rattle.mono_tree.specs.TypedPrograms.{IsTypedProgram, scope_of}
 use Rattle.cast_machine.proofs.CallRows.{unbound_handles}
 use Rattle.cast_machine.proofs.CastsGo.{casts_hold}
 use Rattle.cast_machine.proofs.Progress.{not_stuck}
@@ -18,13 +18,13 @@ use Rattle.cast_machine.specs.declared.data.Settings.{Settings}
 use Rattle.cast_machine.specs.declared.data.State.TheVariants as state
 use Rattle.cast_machine.specs.declared.data.Thread.{Thread}
 
-pub run_ok : (p : CastScript) (pok : IsWellTypedProgram p) (c : Configuration) → IsWellTyped p c → (order : List ℕ) → IsWellTyped p (run_from p c order)
+pub run_ok : (p : CastScript) (pok : IsTypedProgram p) (c : Configuration) → IsWellTyped p c → (order : List ℕ) → IsWellTyped p (run_from p c order)
 run_ok p pok c ok [] = ok
 run_ok p pok c ok (t ∷ order) = run_ok p pok (picked p c t) (pick_ok p pok c ok t).0 order
 
 -- ---- the start
 
-main_ok : (p : CastScript) → IsWellTypedProgram p → IsWellTypedState p (dyn ∷ []) 0 [] dyn (state.Running (main_frame p) [])
+main_ok : (p : CastScript) → IsTypedProgram p → IsWellTypedState p (dyn ∷ []) 0 [] dyn (state.Running (main_frame p) [])
 main_ok p ok = (
   record {
     scope = scope_of p.main None;
@@ -36,7 +36,7 @@ main_ok p ok = (
   tt,
 )
 
-pub start_ok : (p : CastScript) → IsWellTypedProgram p → (s : Settings) → IsWellTyped p (start_of p s)
+pub start_ok : (p : CastScript) → IsTypedProgram p → (s : Settings) → IsWellTyped p (start_of p s)
 start_ok p ok s = record {
   heap = record { typed = λ a x c e. none_some _ e };
   own = record { values = λ a x c e. none_some _ e; named = λ a k ns e. none_some _ e };
@@ -66,7 +66,7 @@ no_losing p c ok (recorded k e lost) =
 
 -- ---- the law
 
-pub safe_at : (p : CastScript) → IsWellTypedProgram p → (c : Configuration) → IsWellTyped p c → IsSafe p c
+pub safe_at : (p : CastScript) → IsTypedProgram p → (c : Configuration) → IsWellTyped p c → IsSafe p c
 safe_at p pok c ok = record {
   typed = ok;
   runs = not_stuck p pok c ok;
@@ -75,5 +75,5 @@ safe_at p pok c ok = record {
   casts = casts_hold p c ok;
 }
 
-pub safe_run : (p : CastScript) → IsWellTypedProgram p → (s : Settings) → 1 ≤ s.fuel → (order : List ℕ) → IsSafe p (run_of p s order)
+pub safe_run : (p : CastScript) → IsTypedProgram p → (s : Settings) → 1 ≤ s.fuel → (order : List ℕ) → IsSafe p (run_of p s order)
 safe_run p pok s fuel order = safe_at p pok (run_of p s order) (run_ok p pok (start_of p s) (start_ok p pok s) order)

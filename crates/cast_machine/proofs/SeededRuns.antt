@@ -3,7 +3,7 @@ use Rattle.std.proofs.Math.Nat.{mod-lt}
 use Rattle.std.proofs.Common.{Bool, List, None, Option, Some, [], ap, arith, false, if◌then◌else◌, is_some, length, mod-lt, refl, set, slice_get, suc, sym, true, zero, ℕ, ◌*◌, ◌+◌, ◌/◌, ◌<◌, ◌^◌, ◌∙◌, ◌∷◌, ◌≡◌, ◌≤◌}
 use Rattle.std.proofs.lemmas.Bool.{false≢true}
 use Rattle.mono_syntax.specs.declared.cast.CastScript.{CastScript}
-use Rattle.mono_tree.specs.WellTyped.{IsWellTypedProgram}
+use Rattle.mono_tree.specs.TypedPrograms.{IsTypedProgram}
 use Rattle.cast_machine.proofs.Progress.{progress, runnable_steps}
 use Rattle.cast_machine.proofs.Ranks.{pick_falls, rank, start_rank}
 use Rattle.cast_machine.proofs.Runs.{start_ok}
@@ -52,20 +52,20 @@ no_end None e = refl
 no_end (Some x) e = absurd (false≢true (sym e))
 
 -- while no end is recorded, a seed picks a runnable thread
-pub picks_one : (p : CastScript) → IsWellTypedProgram p → (s : ℕ) (c : Configuration) → IsWellTyped p c → c.end ≡ None → (t : ℕ) × (seeded_thread p c s ≡ Some t) × (is_runnable p c t ≡ true)
+pub picks_one : (p : CastScript) → IsTypedProgram p → (s : ℕ) (c : Configuration) → IsWellTyped p c → c.end ≡ None → (t : ℕ) × (seeded_thread p c s ≡ Some t) × (is_runnable p c t ≡ true)
 picks_one p pok s c ok e =
     let r = runnable_threads p c in
     let x = found r (pick s (length r)) (pick_below s (length r) (progress p pok c ok e)) in
     (x.0, x.1, runnable_steps p c c.threads 0 (pick s (length r)) x.0 x.1)
 
-none_left : (p : CastScript) → IsWellTypedProgram p → (s : ℕ) (c : Configuration) → IsWellTyped p c → rank c ≤ 0 → (b : Bool) → is_some c.end ≡ b → EndsBy p 0 s c
+none_left : (p : CastScript) → IsTypedProgram p → (s : ℕ) (c : Configuration) → IsWellTyped p c → rank c ≤ 0 → (b : Bool) → is_some c.end ≡ b → EndsBy p 0 s c
 none_left p pok s c ok le true e = ended_by p 0 s c e
 none_left p pok s c ok le false e =
     let x = picks_one p pok s c ok (no_end c.end e) in
     let less = pick_falls p pok c ok x.0 x.2 in
     absurd (omega (arith, less, le))
 
-one_more : (p : CastScript) → IsWellTypedProgram p → (n s : ℕ) (c : Configuration) → IsWellTyped p c → rank c ≤ suc n → ((t : ℕ) → rank (picked p c t) ≤ n → EndsBy p n (next_seed s) (picked p c t)) → (b : Bool) → is_some c.end ≡ b → EndsBy p (suc n) s c
+one_more : (p : CastScript) → IsTypedProgram p → (n s : ℕ) (c : Configuration) → IsWellTyped p c → rank c ≤ suc n → ((t : ℕ) → rank (picked p c t) ≤ n → EndsBy p n (next_seed s) (picked p c t)) → (b : Bool) → is_some c.end ≡ b → EndsBy p (suc n) s c
 one_more p pok n s c ok le next true e = ended_by p (suc n) s c e
 one_more p pok n s c ok le next false e =
     let x = picks_one p pok (next_seed s) c ok (no_end c.end e) in
@@ -76,13 +76,13 @@ one_more p pok n s c ok le next false e =
     below a b n h k = omega arith
 
 -- a configuration whose rank is at most n records an end within n picks
-pub ends_within : (p : CastScript) → IsWellTypedProgram p → (n s : ℕ) (c : Configuration) → IsWellTyped p c → rank c ≤ n → EndsBy p n s c
+pub ends_within : (p : CastScript) → IsTypedProgram p → (n s : ℕ) (c : Configuration) → IsWellTyped p c → rank c ≤ n → EndsBy p n s c
 ends_within p pok zero s c ok le = none_left p pok s c ok le (is_some c.end) refl
 ends_within p pok (suc n) s c ok le =
     one_more p pok n s c ok le (λ t small. ends_within p pok n (next_seed s) (picked p c t) (pick_ok p pok c ok t).0 small) (is_some c.end) refl
 
 -- the run of a script
-pub run_ends : (p : CastScript) → IsWellTypedProgram p → (set : Settings) (s : ℕ) → EndsBy p (256 * (set.fuel + 2)) s (start_of p set)
+pub run_ends : (p : CastScript) → IsTypedProgram p → (set : Settings) (s : ℕ) → EndsBy p (256 * (set.fuel + 2)) s (start_of p set)
 run_ends p pok set s = ends_within p pok (256 * (set.fuel + 2)) s (start_of p set) (start_ok p pok set) (start_rank p set)
 
 -- ---- the loop that computes it

@@ -17,7 +17,7 @@ use Rattle.mono_tree.proofs.TypeLaws.{precise_refl, static_same}
 use Rattle.mono_tree.specs.BodyEnds.{branches_may_end, else_may_end, may_end, statement_may_end}
 use Rattle.mono_tree.specs.CastScripts.{branch_list, else_list, sites_of, values_of}
 use Rattle.mono_tree.specs.Static.{is_static}
-use Rattle.mono_tree.specs.WellTyped.{AreWellTypedBranches, HasBranch, IsOfType, IsWellTypedBlock, IsWellTypedElse, IsWellTypedStatement, ReturnUse, Scope, SiteWhere, StoreUse, type_of_name}
+use Rattle.mono_tree.specs.TypedPrograms.{AreWellTypedBranches, HasBranch, IsOfType, IsWellTypedBlock, IsWellTypedElse, IsWellTypedStatement, ReturnUse, Scope, SiteWhere, StoreUse, type_of_name}
 use Rattle.cast_machine.proofs.Fitting.{has_lower}
 use Rattle.cast_machine.proofs.Obligations.{HereOk, MoveOk, work_ok}
 use Rattle.cast_machine.proofs.Trees.{block_step, branches_back, drop_none, drop_some, else_back, or_assoc, or_left, or_right}

@@ -6,7 +6,7 @@ use Rattle.mono_list.proofs.Cases.{none_some, some_is, some_none}
 use Rattle.mono_syntax.specs.Ty.{Ty, dyn}
 use Rattle.mono_syntax.specs.declared.cast.CastScript.{CastScript}
 use Rattle.mono_syntax.specs.declared.value.Val.{Val}
-use Rattle.mono_tree.specs.WellTyped.{IsWellTypedProgram}
+use Rattle.mono_tree.specs.TypedPrograms.{IsTypedProgram}
 use Rattle.cast_machine.proofs.Grows.{HeapOk, extends_refl, state_grows}
 use Rattle.cast_machine.proofs.Heap.{on_test}
 use Rattle.cast_machine.proofs.Obligations.{BegunOk, HereOk, Kept, end_after, heap_after, results_after}
@@ -106,7 +106,7 @@ abbrev pub StepOk : CastScript → Configuration → ℕ → Option Configuratio
 StepOk p c t None = (th : Thread) → slice_get c.threads t ≡ Some th → Rests c t th.state
 StepOk p c t (Some new) = IsWellTyped p new × Extends c.heap new.heap
 
-module _ (p : CastScript) (pok : IsWellTypedProgram p) (c : Configuration) (ok : IsWellTyped p c) (t : ℕ) where
+module _ (p : CastScript) (pok : IsTypedProgram p) (c : Configuration) (ok : IsWellTyped p c) (t : ℕ) where
   abbrev rs : List Ty
   rs = results_of c.threads
 

@@ -8,7 +8,7 @@ use Rattle.mono_syntax.specs.CastStmtView.{cast_block, cast_branches, cast_else_
 use Rattle.mono_syntax.specs.declared.cast.CastScript.{CastScript}
 use Rattle.mono_tree.specs.BodyEnds.{may_end, statement_may_end}
 use Rattle.mono_tree.specs.CastScripts.{branch_list, else_list}
-use Rattle.mono_tree.specs.WellTyped.{IsWellTypedBlock, Scope}
+use Rattle.mono_tree.specs.TypedPrograms.{IsWellTypedBlock, Scope}
 
 -- what stands from a place on
 pub drop_none : {A : Type 0} (l : List A) (i : ℕ) → slice_get l i ≡ None → drop i l ≡ []

@@ -15,7 +15,7 @@ use Rattle.mono_tree.specs.CastScripts.{values_of}
 use Rattle.mono_tree.specs.Precision.{precise, precise_all}
 use Rattle.mono_tree.specs.Sites.{IsSite, IsSiteTo}
 use Rattle.mono_tree.specs.Static.{is_static}
-use Rattle.mono_tree.specs.WellTyped.{AreNamed, ArgumentUses, DynArguments, HaveArgumentTypes, HaveStaticTypes, Scope, SiteWhere, type_of_name}
+use Rattle.mono_tree.specs.TypedPrograms.{AreNamed, ArgumentUses, DynArguments, HaveArgumentTypes, HaveStaticTypes, Scope, SiteWhere, type_of_name}
 use Rattle.cast_machine.proofs.Fitting.{has_lower}
 use Rattle.cast_machine.proofs.Heap.{lookup-update, lookup-update_other}
 use Rattle.cast_machine.specs.Calls.{arg_items, bind, count_of, take_args, unbound}

@@ -12,7 +12,7 @@ use Rattle.mono_tree.specs.CastScripts.{fields_of, target_in, target_of}
 use Rattle.mono_tree.specs.Precision.{precise}
 use Rattle.mono_tree.specs.Sites.{IsSite, is_cast, loses_precision, site_loses, types_lose}
 use Rattle.mono_tree.specs.Static.{is_static}
-use Rattle.mono_tree.specs.WellTyped.{CastUse, FieldUse, Scope, SiteWhere, WriteUse}
+use Rattle.mono_tree.specs.TypedPrograms.{CastUse, FieldUse, Scope, SiteWhere, WriteUse}
 use Rattle.cast_machine.proofs.Blames.{free_site, has_free, has_free_to}
 use Rattle.cast_machine.proofs.Fitting.{FitOk, extends_set, fit_ok, has_lower, heap_set}
 use Rattle.cast_machine.proofs.Heap.{on_test}

@@ -50,7 +50,7 @@ cells_of (more_fields n t fs) given = cell_of n t (lookup given n) (cells_of fs 
 abbrev pub new_object : ℕ → Heap → ℕ → Option (List (List ℕ × Cell)) → Frame → List Frame → Outcome
 new_object room h c None f below = outcome.NoRow
 new_object room h c (Some cells) f below =
-    let o : Object = record { class = c; cells = cells } in
+    let o : Object = record { class = c; cells = cells; waits = 0; maker = 0 } in
     if nat_le (heap_size h + size o) room
     then outcome.Moves (change.Adds o) (state.Running (has (val.Obj c (heap_size h) ∷ f.values) f) below)
     else fails ends.HeapFull

@@ -5,7 +5,7 @@ use Rattle.mono_syntax.specs.declared.value.Val.{Val}
 use Rattle.mono_syntax.specs.declared.value.Val.TheVariants as val
 use Rattle.mono_syntax.specs.declared.cast.CastScript.{CastScript}
 use Rattle.mono_tree.specs.Precision.{precise}
-use Rattle.mono_tree.specs.Meet.{meet}
+use Rattle.mono_tree.specs.Meet.{meet_of}
 use Rattle.mono_tree.specs.Static.{is_static}
 use Rattle.cast_machine.specs.declared.data.Cell.{Cell}
 use Rattle.cast_machine.specs.declared.data.Ready.{Ready}
@@ -94,7 +94,7 @@ meets p d a x t r f c (Some m) = strengthen d a x t r f c m (fit_of p c.value m)
 
 -- an obligation on its cell: it goes where the recorded type is at least as precise as t
 abbrev pub obligation_cell : CastScript → ℕ → ℕ → List ℕ → Ty → Option Ready → Frame → Cell → Verdict
-obligation_cell p d a x t r f c = if precise c.ty t then verdict.Goes f else meets p d a x t r f c (meet c.ty t)
+obligation_cell p d a x t r f c = if precise c.ty t then verdict.Goes f else meets p d a x t r f c (meet_of c.ty t)
 
 abbrev pub obligation_step : CastScript → Heap → ℕ → ℕ → List ℕ → Ty → Option Ready → Frame → List Frame → Outcome
 obligation_step p h d a x t r f below = settle a x (on_cell verdict.NoRow (obligation_cell p d a x t r f) (cell_at h a x)) below

@@ -4,7 +4,7 @@ use Rattle.mono_syntax.specs.Ty.{Ty, dyn, int, bool, str, nil, fun, obj}
 use Rattle.mono_syntax.specs.declared.value.Val.{Val}
 use Rattle.mono_syntax.specs.declared.value.Val.TheVariants as val
 use Rattle.mono_syntax.specs.declared.cast.CastScript.{CastScript}
-use Rattle.mono_tree.specs.Meet.{meet}
+use Rattle.mono_tree.specs.Meet.{meet_of}
 use Rattle.mono_tree.specs.FieldNames.{names_of}
 use Rattle.cast_machine.specs.declared.data.Fit.{Fit}
 use Rattle.cast_machine.specs.declared.data.Fit.TheVariants as fits
@@ -33,6 +33,6 @@ fit_of p (val.Int n) int = fits.Holds (val.Int n)
 fit_of p (val.Bool b) bool = fits.Holds (val.Bool b)
 fit_of p (val.Text t) str = fits.Holds (val.Text t)
 fit_of p val.Nil nil = fits.Holds val.Nil
-fit_of p (val.Fun g m) (fun ps r) = fit_fun g (meet m (fun ps r))
+fit_of p (val.Fun g m) (fun ps r) = fit_fun g (meet_of m (fun ps r))
 fit_of p (val.Obj c a) (obj fs) = fit_obj (names_same (class_names p c) (names_of fs)) c a
 fit_of p v t = fits.Unfit

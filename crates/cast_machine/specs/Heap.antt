@@ -29,7 +29,7 @@ set_object (o ∷ h) a new = if nat_eq a 0 then new ∷ h else (if nat_lt a (siz
 
 abbrev pub cell_in : Option Object → List ℕ → Option Cell
 cell_in None f = None
-cell_in (Some o) f = lookup o.cells f
+cell_in (Some o) f = if nat_eq o.waits 0 then lookup o.cells f else None
 
 -- the cell of a field of the object at an address
 abbrev pub cell_at : Heap → ℕ → List ℕ → Option Cell
@@ -37,7 +37,7 @@ cell_at h a f = cell_in (object_at h a) f
 
 abbrev pub shape_in : Option Object → Option (ℕ × List (List ℕ))
 shape_in None = None
-shape_in (Some o) = Some (o.class, keys o.cells)
+shape_in (Some o) = if nat_eq o.waits 0 then Some (o.class, keys o.cells) else None
 
 -- the class and the field names of the object at an address
 abbrev pub shape_at : Heap → ℕ → Option (ℕ × List (List ℕ))

@@ -8,7 +8,7 @@ use Rattle.mono_syntax.specs.declared.cast.CastScript.{CastScript}
 use Rattle.mono_tree.specs.FieldNames.{names_of}
 use Rattle.mono_tree.specs.Precision.{precise}
 use Rattle.mono_tree.specs.CastScripts.{class_names}
-use Rattle.mono_tree.specs.WellTyped.{HasField}
+use Rattle.mono_tree.specs.TypedPrograms.{HasField}
 use Rattle.cast_machine.specs.declared.data.Cell.{Cell}
 use Rattle.cast_machine.specs.Heap.{Heap, cell_at, shape_at}
 use Rattle.cast_machine.specs.Operators.{in_range}

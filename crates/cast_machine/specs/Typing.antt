@@ -5,7 +5,7 @@ use Rattle.mono_syntax.specs.declared.value.Val.{Val}
 use Rattle.mono_syntax.specs.declared.cast.CastScript.{CastScript}
 use Rattle.mono_syntax.specs.declared.cast.NamedType.{NamedType}
 use Rattle.mono_tree.specs.Sites.{loses_precision}
-use Rattle.mono_tree.specs.WellTyped.{Scope, type_of_name}
+use Rattle.mono_tree.specs.TypedPrograms.{Scope, type_of_name}
 use Rattle.cast_machine.specs.declared.data.End.{End}
 use Rattle.cast_machine.specs.declared.data.End.TheVariants as ends
 use Rattle.cast_machine.specs.declared.data.Frame.{Frame}

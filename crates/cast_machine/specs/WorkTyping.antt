@@ -12,7 +12,7 @@ use Rattle.mono_tree.specs.Static.{is_static}
 use Rattle.mono_tree.specs.CastScripts.{params_of, result_of}
 use Rattle.mono_tree.specs.Sites.{IsSite, loses_precision}
 use Rattle.mono_tree.specs.BodyEnds.{may_end, statement_may_end, branches_may_end, else_may_end}
-use Rattle.mono_tree.specs.WellTyped.{Scope, type_of_name, HasField, FieldUse, WriteUse, CallUse, NewUse, CastUse, OperatorUse, HasStaticType, IsOfType, StoreUse, ReturnUse, HasBranch, IsWellTypedStatement, IsWellTypedBlock, AreWellTypedBranches, IsWellTypedElse}
+use Rattle.mono_tree.specs.TypedPrograms.{Scope, type_of_name, HasField, FieldUse, WriteUse, CallUse, NewUse, CastUse, OperatorUse, HasStaticType, IsOfType, StoreUse, ReturnUse, HasBranch, IsWellTypedStatement, IsWellTypedBlock, AreWellTypedBranches, IsWellTypedElse}
 use Rattle.cast_machine.specs.declared.data.Cell.{Cell}
 use Rattle.cast_machine.specs.declared.data.Work.{Work}
 use Rattle.cast_machine.specs.declared.data.Work.TheVariants as work

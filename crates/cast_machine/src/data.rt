@@ -46,6 +46,9 @@ pub struct Cell {
 pub struct Object {
     pub class: u32,
     pub cells: NameMap<Cell>,
+    /// How many of its cells are still to be stored, and by which thread. An object that waits shows no cell.
+    pub waits: u32,
+    pub maker: u32,
 }
 
 /// The pair for which an obligation has strengthened the inner value: the value, an object, and the type.

@@ -1,6 +1,6 @@
 ghost use Rattle.std.specs.Prelude.{ℕ, ◌≤◌, List};
 ghost use Rattle.mono_syntax.specs.declared.cast.CastScript.{CastScript};
-ghost use Rattle.mono_tree.specs.WellTyped.{IsWellTypedProgram};
+ghost use Rattle.mono_tree.specs.TypedPrograms.{IsTypedProgram};
 ghost use Rattle.cast_machine.specs.declared.data.Settings.{Settings};
 ghost use Rattle.cast_machine.specs.Step.{run_of};
 ghost use Rattle.cast_machine.specs.Safety.{IsSafe};
@@ -9,5 +9,5 @@ ghost use Rattle.cast_machine.specs.Safety.{IsSafe};
 /// only loses precision. One pick more leaves every field's type at least as precise, and where a cast goes its value has
 /// the target type.
 pub fn safe_runs()
-    ensures { (p : CastScript) → IsWellTypedProgram p → (s : Settings) → 1 ≤ s.fuel → (order : List ℕ) → IsSafe p (run_of p s order) }
+    ensures { (p : CastScript) → IsTypedProgram p → (s : Settings) → 1 ≤ s.fuel → (order : List ℕ) → IsSafe p (run_of p s order) }
 {}

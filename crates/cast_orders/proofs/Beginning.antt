@@ -5,7 +5,7 @@ use Rattle.mono_syntax.specs.declared.value.Val.{Val}
 use Rattle.mono_syntax.specs.declared.value.Val.TheVariants as val
 use Rattle.mono_syntax.specs.declared.cast.CastScript.{CastScript}
 use Rattle.mono_tree.specs.CastScripts.{fields_of, target_of}
-use Rattle.mono_tree.specs.WellTyped.{HasField}
+use Rattle.mono_tree.specs.TypedPrograms.{HasField}
 use Rattle.cast_machine.specs.declared.data.Fit.{Fit}
 use Rattle.cast_machine.specs.declared.data.Fit.TheVariants as fits
 use Rattle.cast_machine.specs.declared.data.Frame.{Frame}

@@ -3,7 +3,7 @@
 use Rattle.std.proofs.Common.{◌≡◌, ℕ, ◌++◌, List, [], ◌∷◌, Some, refl, inl, inr, slice_get}
 use Rattle.mono_syntax.specs.Ty.{Ty, Fields, no_fields, more_fields}
 use Rattle.mono_syntax.specs.declared.value.Val.{Val}
-use Rattle.mono_tree.specs.WellTyped.{HasField}
+use Rattle.mono_tree.specs.TypedPrograms.{HasField}
 use Rattle.cast_machine.specs.declared.data.End.{End}
 use Rattle.cast_machine.specs.declared.data.End.TheVariants as ends
 use Rattle.cast_machine.specs.declared.data.Frame.{Frame}

@@ -16,7 +16,7 @@ use Rattle.cast_orders.proofs.Places.{cell_below, set_above}
 
 -- one object of class 0, whose one field, x, has this type and value
 abbrev pub single : Ty → Val → Heap
-single t v = record { class = 0; cells = (120 ∷ [], record { ty = t; value = v }) ∷ [] } ∷ []
+single t v = record { class = 0; cells = (120 ∷ [], record { ty = t; value = v }) ∷ []; waits = 0; maker = 0 } ∷ []
 
 -- the type with a field x
 abbrev pub with_x : Ty → Ty

@@ -5,7 +5,7 @@ use Rattle.mono_syntax.specs.Ty.{Ty, dyn, int, bool, str, nil, fun, obj, Fields}
 use Rattle.mono_syntax.specs.declared.value.Val.{Val}
 use Rattle.mono_syntax.specs.declared.value.Val.TheVariants as val
 use Rattle.mono_syntax.specs.declared.cast.CastScript.{CastScript}
-use Rattle.mono_tree.specs.Meet.{meet}
+use Rattle.mono_tree.specs.Meet.{meet_of}
 use Rattle.mono_tree.specs.FieldNames.{names_of}
 use Rattle.mono_tree.specs.CastScripts.{class_names}
 use Rattle.mono_tree.proofs.TypeLaws.{meet_below, meet_found, meet_greatest}
@@ -24,7 +24,7 @@ abbrev pub Narrows : Val → Fit → Type 0
 Narrows v (fits.Holds u) = IsValueBelow u v
 Narrows v o = Unit {0}
 
-fun_narrows : (g : ℕ) (m t : Ty) (o : Option Ty) → meet m t ≡ o → Narrows (val.Fun g m) (fit_fun g o)
+fun_narrows : (g : ℕ) (m t : Ty) (o : Option Ty) → meet_of m t ≡ o → Narrows (val.Fun g m) (fit_fun g o)
 fun_narrows g m t None e = tt
 fun_narrows g m t (Some u) e = (u, refl, (meet_below m t u e).0)
 
@@ -34,7 +34,7 @@ obj_narrows c a false = tt
 
 pub fit_narrows : (p : CastScript) (v : Val) (t : Ty) → Narrows v (fit_of p v t)
 fit_narrows p v dyn = value_refl v
-fit_narrows p (val.Fun g m) (fun ps r) = fun_narrows g m (fun ps r) (meet m (fun ps r)) refl
+fit_narrows p (val.Fun g m) (fun ps r) = fun_narrows g m (fun ps r) (meet_of m (fun ps r)) refl
 fit_narrows p (val.Obj c a) (obj fs) = obj_narrows c a (names_same (class_names p c) (names_of fs))
 fit_narrows p (val.Int n) int = refl
 fit_narrows p (val.Bool b) bool = refl
@@ -48,7 +48,7 @@ IsAbove w fits.Unfit = ⊥
 IsAbove w (fits.Holds u) = IsValueBelow w u
 IsAbove w (fits.Opens c a) = Unit {0}
 
-fun_above : (g : ℕ) (m n t : Ty) → IsAsPrecise n m → IsAsPrecise n t → (o : Option Ty) → meet m t ≡ o → IsAbove (val.Fun g n) (fit_fun g o)
+fun_above : (g : ℕ) (m n t : Ty) → IsAsPrecise n m → IsAsPrecise n t → (o : Option Ty) → meet_of m t ≡ o → IsAbove (val.Fun g n) (fit_fun g o)
 fun_above g m n t b c None e = let found = meet_found m t n b c in some_none ⊥ (sym found.1 ∙ e)
 fun_above g m n t b c (Some u) e = (n, refl, meet_greatest m t u n e b c)
 
@@ -66,8 +66,8 @@ obj_above p k ok c a fs i has false e =
 pub fit_above : (p : CastScript) (k : Heap) → HeapOk p k → (w v : Val) (t : Ty) → IsValueBelow w v → IsValueOf p k w → HasType k w t → IsAbove w (fit_of p v t)
 fit_above p k ok w v dyn b i has = b
 fit_above p k ok w (val.Fun g m) (fun ps r) b i has =
-    subst (λ x. IsAbove x (fit_fun g (meet m (fun ps r)))) (sym b.1)
-    (fun_above g m b.0 (fun ps r) b.2 (subst (λ x. HasType k x (fun ps r)) b.1 has) (meet m (fun ps r)) refl)
+    subst (λ x. IsAbove x (fit_fun g (meet_of m (fun ps r)))) (sym b.1)
+    (fun_above g m b.0 (fun ps r) b.2 (subst (λ x. HasType k x (fun ps r)) b.1 has) (meet_of m (fun ps r)) refl)
 fit_above p k ok w (val.Obj c a) (obj fs) b i has =
     subst (λ x. IsAbove x (fit_of p (val.Obj c a) (obj fs))) (sym b)
     (obj_above p k ok c a fs (subst (λ x. IsValueOf p k x) b i) (subst (λ x. HasType k x (obj fs)) b has) (names_same (class_names p c) (names_of fs)) refl)

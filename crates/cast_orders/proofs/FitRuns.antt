@@ -5,7 +5,7 @@ use Rattle.mono_list.proofs.Cases.{some_is, none_some}
 use Rattle.mono_syntax.specs.Ty.{Ty}
 use Rattle.mono_syntax.specs.declared.value.Val.{Val}
 use Rattle.mono_syntax.specs.declared.cast.CastScript.{CastScript}
-use Rattle.mono_tree.specs.WellTyped.{IsWellTypedProgram}
+use Rattle.mono_tree.specs.TypedPrograms.{IsTypedProgram}
 use Rattle.cast_machine.specs.declared.data.End.{End}
 use Rattle.cast_machine.specs.declared.data.End.TheVariants as ends
 use Rattle.cast_machine.specs.declared.data.Frame.{Frame}
@@ -65,7 +65,7 @@ never_longer item more rest e = let n = longer item more rest in let z : length 
 
 -- ---- one step
 
-module _ (p : CastScript) (pok : IsWellTypedProgram p) (c : Configuration) (cok : IsWellTyped p c) (t : ℕ) (v : Val) (to : Ty) (b : BeginsFit p c t v to) where
+module _ (p : CastScript) (pok : IsTypedProgram p) (c : Configuration) (cok : IsWellTyped p c) (t : ℕ) (v : Val) (to : Ty) (b : BeginsFit p c t v to) where
   abbrev pub start : FitStart
   start = record { heap = c.heap; frame = b.frame; rest = b.rest; place = b.place; value = v; to = to }
 

@@ -98,7 +98,7 @@ object_antisym : (o q : Object) → IsObjectBelow o q → IsObjectBelow q o → 
 object_antisym o q b c =
     let e = b.0 in
     let f = cells_antisym o.cells q.cells b.1 c.1 in
-    λ j. record { class = e j; cells = f j }
+    λ j. record { class = (e j).0; cells = f j; waits = (e j).1; maker = (e j).2 }
 
 pub heap_antisym : (k h : Heap) → IsHeapBelow k h → IsHeapBelow h k → k ≡ h
 heap_antisym [] [] b c = refl

@@ -70,7 +70,7 @@ shape_both : (x y : Option Object) → Both IsObjectBelow x y → shape_in x ≡
 shape_both None None b = refl
 shape_both None (Some q) b = absurd b
 shape_both (Some o) None b = absurd b
-shape_both (Some o) (Some q) b = ap₂ (λ c ns. Some (c, ns)) b.0 (keys_same o.cells q.cells b.1)
+shape_both (Some o) (Some q) b = ap₂ (λ (u : ℕ × ℕ × ℕ) (ns : List (List ℕ)). if nat_eq u.1 0 then Some (u.0, ns) else None) b.0 (keys_same o.cells q.cells b.1)
 
 pub shape_below : (k h : Heap) (a : ℕ) → IsHeapBelow k h → shape_at k a ≡ shape_at h a
 shape_below k h a b = shape_both (object_at k a) (object_at h a) (object_both k h a b)
@@ -79,7 +79,11 @@ cell_both : (x y : Option Object) (f : List ℕ) → Both IsObjectBelow x y → 
 cell_both None None f b = tt
 cell_both None (Some q) f b = absurd b
 cell_both (Some o) None f b = absurd b
-cell_both (Some o) (Some q) f b = lookup_both o.cells q.cells f b.1
+cell_both (Some o) (Some q) f b =
+    subst (λ (u : ℕ × ℕ × ℕ). Both IsCellBelow (if nat_eq o.waits 0 then lookup o.cells f else None) (if nat_eq u.1 0 then lookup q.cells f else None)) b.0
+    (split (nat_eq o.waits 0) (λ t. Both IsCellBelow (if t then lookup o.cells f else None) (if t then lookup q.cells f else None))
+    (λ yes. lookup_both o.cells q.cells f b.1)
+    (λ no. tt))
 
 -- the cell of the lower heap where the upper one has a cell
 pub cell_below : (k h : Heap) (a : ℕ) (f : List ℕ) (d : Cell) → IsHeapBelow k h → cell_at h a f ≡ Some d → (c : Cell) × (cell_at k a f ≡ Some c) × IsCellBelow c d
@@ -138,11 +142,11 @@ set_above k h a f c d new b e g i =
     let y = cell_object (object_at h a) f d g in
     let z : Both IsObjectBelow (Some x.0) (Some y.0) = subst (λ q. Both IsObjectBelow (Some x.0) q) y.1 (subst (λ q. Both IsObjectBelow q (object_at h a)) x.1 (object_both k h a b)) in
     subst (λ q. IsHeapBelow k (set_in h a f new q)) (sym y.1)
-    (object_above k h a x.0 (record { class = (y.0).class; cells = update (y.0).cells f new }) b x.1 (z.0, update_above (x.0).cells (y.0).cells f c new z.1 x.2 i))
+    (object_above k h a x.0 (record (y.0) { cells = update (y.0).cells f new }) b x.1 (z.0, update_above (x.0).cells (y.0).cells f c new z.1 x.2 i))
 
 -- a changed cell that is below leaves the heap below
 pub set_below : (h : Heap) (a : ℕ) (f : List ℕ) (d new : Cell) → cell_at h a f ≡ Some d → IsCellBelow new d → IsHeapBelow (set_cell h a f new) h
 set_below h a f d new e i =
     let x = cell_object (object_at h a) f d e in
     subst (λ q. IsHeapBelow (set_in h a f new q) h) (sym x.1)
-    (object_below h a x.0 (record { class = (x.0).class; cells = update (x.0).cells f new }) x.1 (refl, update_below (x.0).cells f d new x.2 i))
+    (object_below h a x.0 (record (x.0) { cells = update (x.0).cells f new }) x.1 (refl, update_below (x.0).cells f d new x.2 i))

@@ -6,9 +6,9 @@ use Rattle.mono_syntax.specs.declared.value.Val.{Val}
 use Rattle.mono_syntax.specs.declared.value.Val.TheVariants as val
 use Rattle.mono_syntax.specs.declared.cast.CastScript.{CastScript}
 use Rattle.mono_tree.specs.CastScripts.{fields_of}
-use Rattle.mono_tree.specs.Meet.{meet}
+use Rattle.mono_tree.specs.Meet.{meet_of}
 use Rattle.mono_tree.specs.Precision.{precise}
-use Rattle.mono_tree.specs.WellTyped.{HasField}
+use Rattle.mono_tree.specs.TypedPrograms.{HasField}
 use Rattle.mono_tree.proofs.TypeLaws.{meet_below, meet_found, meet_greatest}
 use Rattle.cast_machine.specs.declared.data.Cell.{Cell}
 use Rattle.cast_machine.specs.declared.data.Fit.{Fit}
@@ -60,7 +60,7 @@ module _ (p : CastScript) (s : FitStart) (h : Heap) (ok : HeapOk p h) (b : Bound
         let d = cell_below k h a x c (b.each k w y) at in
         record { cell = i.cell; at = i.at; low = subst (λ q. IsCellBelow q c) (some_is (sym d.1 ∙ i.at)) d.2; asked = i.low }
 
-    module _ (m : Ty) (e : meet c.ty t ≡ Some m) where
+    module _ (m : Ty) (e : meet_of c.ty t ≡ Some m) where
       met_low : (k : Heap) (w : Val) (y : Solves s k w) → IsAsPrecise ((met_in k w y).cell).ty m
       met_low k w y = let i = met_in k w y in meet_greatest c.ty t m (i.cell).ty e (i.low).ty i.asked
 
@@ -100,7 +100,7 @@ module _ (p : CastScript) (s : FitStart) (h : Heap) (ok : HeapOk p h) (b : Bound
                 same,
           ))
 
-    meets_out : (d : ℕ) (ready : Option Ready) (o : Option Ty) → meet c.ty t ≡ o → At (meets p d a x t ready f c o)
+    meets_out : (d : ℕ) (ready : Option Ready) (o : Option Ty) → meet_of c.ty t ≡ o → At (meets p d a x t ready f c o)
     meets_out d ready None e = blaming_out (blamed f.work) (λ q.
         let i = met_in q.0 q.1 q.2 in
         let found = meet_found c.ty t (i.cell).ty (i.low).ty i.asked in
@@ -115,7 +115,7 @@ module _ (p : CastScript) (s : FitStart) (h : Heap) (ok : HeapOk p h) (b : Bound
   cell_out d ready (Some c) e =
       on_test (precise c.ty t) _ _ At
       (λ met. (b, strengthens more same))
-      (λ unmet. meets_out c e d ready (meet c.ty t) refl)
+      (λ unmet. meets_out c e d ready (meet_of c.ty t) refl)
 
   pub obligation_out : (d : ℕ) (ready : Option Ready) → Gives h (Good s) (obligation_step p h d a x t ready f below)
   obligation_out d ready = cell_out d ready (cell_at h a x) refl

@@ -25,9 +25,13 @@ AreCellsBelow [] [] = Unit {0}
 AreCellsBelow (p ∷ cs) (q ∷ ds) = (p.0 ≡ q.0) × IsCellBelow p.1 q.1 × AreCellsBelow cs ds
 AreCellsBelow cs ds = ⊥
 
--- an object of the same class
+-- what an object is apart from its cells: its class, how many values it waits for, and who makes it
+abbrev pub head_of : Object → ℕ × ℕ × ℕ
+head_of o = (o.class, o.waits, o.maker)
+
+-- an object that is the same apart from its cells
 abbrev pub IsObjectBelow : Object → Object → Type 0
-IsObjectBelow o q = (o.class ≡ q.class) × AreCellsBelow o.cells q.cells
+IsObjectBelow o q = (head_of o ≡ head_of q) × AreCellsBelow o.cells q.cells
 
 -- the same objects, each cell at least as precise
 abbrev pub IsHeapBelow : Heap → Heap → Type 0

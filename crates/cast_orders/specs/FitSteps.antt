@@ -4,7 +4,7 @@ use Rattle.mono_syntax.specs.Ty.{Ty}
 use Rattle.mono_syntax.specs.declared.value.Val.{Val}
 use Rattle.mono_syntax.specs.declared.cast.CastScript.{CastScript}
 use Rattle.mono_tree.specs.CastScripts.{target_of}
-use Rattle.mono_tree.specs.WellTyped.{IsWellTypedProgram}
+use Rattle.mono_tree.specs.TypedPrograms.{IsTypedProgram}
 use Rattle.cast_machine.specs.declared.data.End.{End}
 use Rattle.cast_machine.specs.declared.data.Frame.{Frame}
 use Rattle.cast_machine.specs.declared.data.Settings.{Settings}
@@ -16,7 +16,7 @@ use Rattle.cast_machine.specs.Step.{Configuration, run_of, step_of}
 
 -- a configuration of a run of a well-typed script
 pub record IsOfRun (p : CastScript) (c : Configuration) : Type 0 where
-  pub script : IsWellTypedProgram p
+  pub script : IsTypedProgram p
   pub settings : Settings
   pub fuel : 1 ≤ settings.fuel
   pub picks : List ℕ

@@ -3,13 +3,13 @@ use Rattle.std.proofs.Common.{◌≡◌, ◌∙◌, sym, ap, refl, ℕ, ◌+◌,
 use Rattle.std.specs.Prelude.{Option, Result, Ok, Err, IfOk}
 use Rattle.mono_syntax.specs.declared.refusal.Refusal.{Refusal}
 use Rattle.mono_syntax.specs.declared.tree.Item.{Item}
-use Rattle.class_types.specs.declared.measure.Size.{Size}
+use Rattle.mono_tree.specs.declared.size.Size.{Size}
 use Rattle.mono_syntax.specs.Ann.{Ann}
 use Rattle.mono_syntax.specs.AnnView.{anns}
-use Rattle.class_types.specs.FirstFault.{sooner}
+use Rattle.script_rules.specs.FirstFault.{sooner}
 use Rattle.class_types.proofs.MadeTurns.{next}
 use Rattle.class_types.specs.FoundFaults.{first_from, found, wide, wides, part_faults, parts_faults, own_faults, items_faults}
-use Rattle.class_types.specs.SourceParts.{Counted, Part, count_of, item_parts}
+use Rattle.script_rules.specs.SourceParts.{Counted, Part, count_of, item_parts}
 
 pub first-append : (so_far : Option Refusal) (rs ss : List Refusal) → first_from so_far (rs ++ ss) ≡ first_from (first_from so_far rs) ss
 first-append so_far [] ss = refl

@@ -11,7 +11,7 @@ use Rattle.script_rules.specs.Definitions.{class_named}
 use Rattle.class_types.specs.FoundFaults.{first_from, found}
 use Rattle.class_types.specs.Leading.{marked_at, is_marked, word_fault, recursive_at, leads_now, put_mark, mark, mark_round, unmarked, AreLeading}
 use Rattle.class_types.specs.Made.{place_from, place_in, names_of_classes}
-use Rattle.class_types.specs.Recursion.{Leads, here, through, field_names}
+use Rattle.script_rules.specs.Recursion.{Leads, here, through, field_names}
 use Rattle.class_types.proofs.Gets.{some_is, none_some, set-other, get-within}
 use Rattle.class_types.proofs.MadeLaws.{place-of}
 use Rattle.class_types.proofs.FoundLaws.{first-append}

@@ -14,29 +14,13 @@ use Rattle.mono_syntax.specs.Ann as form
 use Rattle.mono_syntax.specs.Ty.{Ty, fun, Tys, more_tys, Fields, no_fields, more_fields}
 use Rattle.mono_tree.specs.Meet.{both}
 use Rattle.script_rules.specs.Writes.{put_field, in_order}
-use Rattle.class_types.specs.declared.measure.Size.{Size}
+use Rattle.mono_tree.specs.declared.size.Size.{Size}
+use Rattle.mono_tree.proofs.SizeLaws.{capped, joined-capped, grown-capped, capped-same}
 use Rattle.class_types.specs.Made.{place_in, known_at, look, type_by, types_by, fields_by, class_by, any_by, params_by, function_by, object_of}
-use Rattle.class_types.specs.Measured.{measured, joined, grown, size_by, sizes_onto, fields_onto, class_size_by, any_size_by, params_onto, function_size_by}
+use Rattle.mono_tree.specs.CountedSizes.{measured, joined, grown}
+use Rattle.class_types.specs.Measured.{size_by, sizes_onto, fields_onto, class_size_by, any_size_by, params_onto, function_size_by}
 use Rattle.class_types.specs.Rounds.{fill, filled, round, unknown}
-use Rattle.class_types.specs.Sizes.{nodes_of, nodes_of_all, nodes_of_fields, depth_of, depth_of_all, depth_of_fields}
-
--- ---- sizes of parts
-
--- parts of m nodes and depth d, counted up to the limits
-abbrev capped : ℕ → ℕ → Size
-capped m d = record { nodes = min m 1025; depth = min d 33 }
-
-same_size : {a b : Size} → a.nodes ≡ b.nodes → a.depth ≡ b.depth → a ≡ b
-same_size n d = λ i. record { nodes = n i; depth = d i }
-
-joined-capped : (m d : ℕ) (t : Ty) → joined (capped m d) (measured t) ≡ capped (m + nodes_of t) (max d (depth_of t))
-joined-capped m d t = same_size (omega arith) (omega arith)
-
-grown-capped : (m d : ℕ) → grown (capped m d) ≡ capped (m + 1) (d + 1)
-grown-capped m d = same_size (omega arith) (omega arith)
-
-capped-same : {m n d e : ℕ} → m ≡ n → d ≡ e → capped m d ≡ capped n e
-capped-same p q = λ i. capped (p i) (q i)
+use Rattle.mono_tree.specs.Sizes.{nodes_of, nodes_of_all, nodes_of_fields, depth_of, depth_of_all, depth_of_fields}
 
 -- ---- fields in order are as large as before
 

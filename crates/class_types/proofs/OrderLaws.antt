@@ -3,7 +3,7 @@ use Rattle.std.proofs.Common.{◌≡◌, ◌∙◌, sym, subst, refl, ℕ, zero,
 use Rattle.std.specs.Prelude.{◌&&◌, ◌||◌, ◌==◌, nat_lt, nat_le, ◌⊎◌, Option, Some, None, Contains}
 use Rattle.std.proofs.lemmas.Bool.Decides.{nat_tests}
 use Rattle.mono_syntax.specs.declared.refusal.Refusal.{Refusal}
-use Rattle.class_types.specs.FirstFault.{no_later, rank, sooner}
+use Rattle.script_rules.specs.FirstFault.{no_later, rank, sooner}
 pub use Rattle.class_types.specs.FoundFaults.{In}
 use Rattle.class_types.specs.FoundFaults.{first_from}
 use Rattle.class_types.proofs.Gets.{some_is, none_some}

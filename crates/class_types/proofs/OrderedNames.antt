@@ -18,8 +18,8 @@ use Rattle.mono_tree.specs.FieldNames.{names_of}
 use Rattle.mono_tree.specs.IsType.{IsBefore, AreInOrder, IsType, AreTypes, HaveTypes, tys_count}
 use Rattle.script_rules.specs.Definitions.{class_named}
 use Rattle.script_rules.specs.Writes.{put_field, in_order, Writes, writes_dyn, writes_int, writes_bool, writes_str, writes_nil, writes_class, writes_fun, WriteAll, write_none, write_more, Declares, declares_none, declares_more}
-use Rattle.class_types.specs.SourceParts.{Counted, callables, callables_all, count_of}
-use Rattle.class_types.specs.WellFormed.{AreApart, IsNarrow, AreWellFormed}
+use Rattle.script_rules.specs.SourceParts.{Counted, callables, callables_all, count_of}
+use Rattle.script_rules.specs.WellFormed.{AreApart, IsNarrow, AreWellFormed}
 use Rattle.class_types.proofs.Gets.{some_is, none_some}
 use Rattle.class_types.proofs.OrderLaws.{In, in-left, in-right, in-contains, contains-in}
 

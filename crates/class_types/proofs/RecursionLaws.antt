@@ -13,13 +13,14 @@ use Rattle.mono_syntax.specs.Ann.{Ann, ann, Anns, no_anns, more_anns}
 use Rattle.mono_syntax.specs.Ann as form
 use Rattle.mono_syntax.specs.Ty.{Ty, fun, Tys, more_tys, Fields, more_fields, ty_size, tys_size, fields_size}
 use Rattle.script_rules.specs.Writes.{in_order}
-use Rattle.class_types.specs.declared.measure.Size.{Size}
-use Rattle.class_types.specs.FirstFault.{no_later, IsFirst, IsFaultless}
+use Rattle.mono_tree.specs.declared.size.Size.{Size}
+use Rattle.script_rules.specs.FirstFault.{no_later, IsFirst, IsFaultless}
 use Rattle.class_types.specs.FoundFaults.{found}
 use Rattle.class_types.specs.Leading.{word_fault, recursive_at, AreLeading, LeadsBack, AddsFaults}
 use Rattle.class_types.specs.Made.{look, place_in, type_by, types_by, fields_by, class_by, object_of, names_of_classes, AreSettled}
-use Rattle.class_types.specs.Measured.{measured, stray_type, AreMeasured}
-use Rattle.class_types.specs.Recursion.{names_in, names_in_all, field_names, Leads, here, through, RecursionFault, IsRecursive}
+use Rattle.mono_tree.specs.CountedSizes.{measured}
+use Rattle.class_types.specs.Measured.{stray_type, AreMeasured}
+use Rattle.script_rules.specs.Recursion.{names_in, names_in_all, field_names, Leads, here, through, RecursionFault, IsRecursive}
 use Rattle.class_types.proofs.Gets.{some_is, none_some, get-within}
 use Rattle.class_types.proofs.LeadingLaws.{all_faults, found-all, all-from, all-to, word-from, word-to, class-at, at-class}
 use Rattle.class_types.proofs.MadeLaws.{both-parts, map-parts, look-class, order-size}

@@ -16,14 +16,15 @@ use Rattle.mono_syntax.specs.declared.tree.Script.{Script}
 use Rattle.mono_syntax.specs.Ty.{Ty}
 use Rattle.script_rules.specs.Definitions.{classes_of, functions_of, statements_of}
 use Rattle.script_rules.specs.Scoping.{class_list, function_list}
-use Rattle.class_types.specs.declared.measure.Size.{Size}
-use Rattle.class_types.specs.FirstFault.{IsFirst, IsFaultless}
-use Rattle.class_types.specs.FoundFaults.{first_from, too_large, type_fault, count_fault, wide, wides, part_faults, parts_faults, name_fault, own_faults, items_faults, script_faults}
+use Rattle.mono_tree.specs.declared.size.Size.{Size}
+use Rattle.script_rules.specs.FirstFault.{IsFirst, IsFaultless}
+use Rattle.class_types.specs.FoundFaults.{first_from, type_fault, count_fault, wide, wides, part_faults, parts_faults, name_fault, own_faults, items_faults, script_faults}
 use Rattle.class_types.specs.Made.{look, type_by, class_by, function_by, names_of_classes}
-use Rattle.class_types.specs.Measured.{measured, size_by, class_size_by, function_size_by, AreMeasured}
-use Rattle.class_types.specs.SizeFaults.{SizeFault, large_class, large_function, large_type, many_fields, many_parameters, wide_callable, many_arguments, crowded_function, crowded_main}
-use Rattle.class_types.specs.Sizes.{nodes_of, depth_of, IsTooLarge}
-use Rattle.class_types.specs.SourceParts.{Counted, Part, annotation, arguments, place_of, callables, item_parts, parts_of, block_names}
+use Rattle.mono_tree.specs.CountedSizes.{measured, is_too_large}
+use Rattle.class_types.specs.Measured.{size_by, class_size_by, function_size_by, AreMeasured}
+use Rattle.script_rules.specs.SizeFaults.{SizeFault, large_class, large_function, large_type, many_fields, many_parameters, wide_callable, many_arguments, crowded_function, crowded_main}
+use Rattle.mono_tree.specs.Sizes.{nodes_of, depth_of, IsTooLarge}
+use Rattle.script_rules.specs.SourceParts.{Counted, Part, annotation, arguments, place_of, callables, item_parts, parts_of, block_names}
 use Rattle.class_types.proofs.Gets.{none_some}
 use Rattle.class_types.proofs.MeasureLaws.{look-map, size-type, class-size, function-size}
 use Rattle.class_types.proofs.OrderLaws.{In, in-left, in-right, in-cases, in-contains, contains-in, first-least, first-none}
@@ -32,13 +33,13 @@ use Rattle.class_types.proofs.WritesLaws.{made-writes, writes-made, made-class, 
 
 -- ---- single faults
 
-large-test : (t : Ty) → too_large (measured t) ≡ true → IsTooLarge t
+large-test : (t : Ty) → is_too_large (measured t) ≡ true → IsTooLarge t
 large-test t = go (nodes_of t) (depth_of t)
   where
     go : (n d : ℕ) → (nat_lt 1024 (min n 1025) || nat_lt 32 (min d 33)) ≡ true → (1024 < n) ⊎ (32 < d)
     go n d = grind (arith, nat_tests)
 
-test-large : (t : Ty) → IsTooLarge t → too_large (measured t) ≡ true
+test-large : (t : Ty) → IsTooLarge t → is_too_large (measured t) ≡ true
 test-large t = go (nodes_of t) (depth_of t)
   where
     go : (n d : ℕ) → (1024 < n) ⊎ (32 < d) → (nat_lt 1024 (min n 1025) || nat_lt 32 (min d 33)) ≡ true
@@ -51,9 +52,9 @@ LargeHere p o r = (t : Ty) × (o ≡ Some t) × IsTooLarge t × ((record { place
 
 type-from : (p : Place) (o : Option Ty) (r : Refusal) → In r (type_fault p (option_map measured o)) → LargeHere p o r
 type-from p None r h = absurd h
-type-from p (Some t) r h = go (too_large (measured t)) refl h
+type-from p (Some t) r h = go (is_too_large (measured t)) refl h
   where
-    go : (b : Bool) → too_large (measured t) ≡ b → In r (if b then (record { place = p; reason = TypeTooLarge }) ∷ [] else []) → LargeHere p (Some t) r
+    go : (b : Bool) → is_too_large (measured t) ≡ b → In r (if b then (record { place = p; reason = TypeTooLarge }) ∷ [] else []) → LargeHere p (Some t) r
     go true e (inl is) = (t, refl, large-test t e, is)
     go true e (inr none) = absurd none
     go false e none = absurd none

@@ -5,9 +5,10 @@ use Rattle.std.specs.Prelude.{Option, Some, None, slice_get}
 use Rattle.std.specs.Option.{option_map}
 use Rattle.mono_syntax.specs.declared.tree.ClassDef.{ClassDef}
 use Rattle.mono_syntax.specs.Ty.{Ty}
-use Rattle.class_types.specs.declared.measure.Size.{Size}
+use Rattle.mono_tree.specs.declared.size.Size.{Size}
 use Rattle.class_types.specs.Made.{look, class_by, names_of_classes}
-use Rattle.class_types.specs.Measured.{measured, class_size_by, stray_type, AreMeasured}
+use Rattle.mono_tree.specs.CountedSizes.{measured}
+use Rattle.class_types.specs.Measured.{class_size_by, stray_type, AreMeasured}
 use Rattle.class_types.specs.Rounds.{round, unknown, visit_class, visited}
 use Rattle.class_types.proofs.MadeLaws.{class-grows}
 use Rattle.class_types.proofs.MeasureLaws.{round-map, unknown-map, filled-map}

@@ -8,10 +8,11 @@ use Rattle.mono_syntax.specs.declared.refusal.Refusal.{Refusal}
 use Rattle.mono_syntax.specs.declared.tree.Item.{Item}
 use Rattle.mono_syntax.specs.declared.tree.Item.TheVariants as item
 use Rattle.script_rules.specs.Definitions.{statements_of}
-use Rattle.class_types.specs.declared.measure.Size.{Size}
-use Rattle.class_types.specs.FirstFault.{sooner}
+use Rattle.mono_tree.specs.declared.size.Size.{Size}
+use Rattle.mono_tree.specs.CountedSizes.{is_too_large}
+use Rattle.script_rules.specs.FirstFault.{sooner}
 use Rattle.class_types.specs.Measured.{size_by, class_size_by, function_size_by}
-use Rattle.class_types.specs.SourceParts.{Counted, Part, annotation, arguments, place_of, callables, item_parts, block_names}
+use Rattle.script_rules.specs.SourceParts.{Counted, Part, annotation, arguments, place_of, callables, item_parts, block_names}
 
 -- the first of the faults so far and these
 abbrev pub first_from : Option Refusal → List Refusal → Option Refusal
@@ -23,12 +24,9 @@ abbrev pub found : {A : Type 0} → (A → List Refusal) → Option Refusal → 
 found faults so_far [] = so_far
 found faults so_far (x ∷ xs) = found faults (first_from so_far (faults x)) xs
 
-abbrev pub too_large : Size → Bool
-too_large s = nat_lt 1024 s.nodes || nat_lt 32 s.depth
-
 abbrev pub type_fault : Place → Option Size → List Refusal
 type_fault p None = []
-type_fault p (Some s) = if too_large s then record { place = p; reason = TypeTooLarge } ∷ [] else []
+type_fault p (Some s) = if is_too_large s then record { place = p; reason = TypeTooLarge } ∷ [] else []
 
 abbrev pub count_fault : Reason → ℕ → Counted → List Refusal
 count_fault r most c = if nat_lt most c.count then record { place = c.place; reason = r } ∷ [] else []

@@ -5,11 +5,11 @@ use Rattle.mono_syntax.specs.declared.leaf.Word.{Word}
 use Rattle.mono_syntax.specs.declared.refusal.Reason.TheVariants.{RecursiveClass}
 use Rattle.mono_syntax.specs.declared.refusal.Refusal.{Refusal}
 use Rattle.mono_syntax.specs.declared.tree.ClassDef.{ClassDef}
-use Rattle.class_types.specs.declared.measure.Size.{Size}
+use Rattle.mono_tree.specs.declared.size.Size.{Size}
 use Rattle.script_rules.specs.Definitions.{class_named}
 use Rattle.class_types.specs.FoundFaults.{first_from, found, In}
 use Rattle.class_types.specs.Made.{place_in, names_of_classes}
-use Rattle.class_types.specs.Recursion.{Leads, field_names}
+use Rattle.script_rules.specs.Recursion.{Leads, field_names}
 use Rattle.std.specs.Prelude.{Contains}
 
 abbrev pub marked_at : List Bool → Option ℕ → Bool

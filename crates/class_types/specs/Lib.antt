@@ -1,9 +1,3 @@
-pub mod Recursion
-pub mod Sizes
-pub mod FirstFault
-pub mod SourceParts
-pub mod WellFormed
-pub mod SizeFaults
 pub mod Known
 pub mod Made
 pub mod Placed

@@ -1,5 +1,5 @@
 -- Sizes of types, counted up to just over the greatest that is allowed, so that no type is made.
-use Rattle.std.specs.Prelude.{◌≡◌, ℕ, ◌+◌, List, [], ◌∷◌, Option, Some, None, map, min, max, option_and_then}
+use Rattle.std.specs.Prelude.{◌≡◌, ℕ, ◌+◌, List, [], ◌∷◌, Option, Some, None, map, option_and_then}
 use Rattle.std.specs.Option.{option_map}
 use Rattle.mono_syntax.specs.declared.tree.ClassDef.{ClassDef}
 use Rattle.mono_syntax.specs.declared.tree.FieldDef.{FieldDef}
@@ -8,27 +8,9 @@ use Rattle.mono_syntax.specs.declared.tree.Param.{Param}
 use Rattle.mono_syntax.specs.Ann.{Ann, ann, Anns, no_anns, more_anns}
 use Rattle.mono_syntax.specs.Ann as form
 use Rattle.mono_syntax.specs.Ty.{Ty, dyn}
-use Rattle.class_types.specs.declared.measure.Size.{Size}
+use Rattle.mono_tree.specs.declared.size.Size.{Size}
 use Rattle.class_types.specs.Made.{AreSettled}
-use Rattle.class_types.specs.Sizes.{nodes_of, depth_of}
-
-abbrev pub measured : Ty → Size
-measured t = record { nodes = min (nodes_of t) 1025; depth = min (depth_of t) 33 }
-
--- no part yet
-abbrev pub nothing : Size
-nothing = record { nodes = 0; depth = 0 }
-
--- some parts and one more
-abbrev pub joined : Size → Size → Size
-joined a b = record { nodes = min (a.nodes + b.nodes) 1025; depth = max a.depth b.depth }
-
--- the whole of these parts
-abbrev pub grown : Size → Size
-grown s = record { nodes = min (s.nodes + 1) 1025; depth = min (s.depth + 1) 33 }
-
-abbrev pub leaf : Size
-leaf = record { nodes = 1; depth = 1 }
+use Rattle.mono_tree.specs.CountedSizes.{measured, nothing, joined, grown, leaf}
 
 abbrev mutual
   pub size_by : (List ℕ → Option Size) → Ann → Option Size

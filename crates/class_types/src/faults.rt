@@ -1,11 +1,12 @@
 ghost use Rattle.std.specs.Prelude.{◌≡◌, ◌+◌, length, None};
 ghost use Rattle.mono_syntax.specs.AnnView.{anns};
-ghost use Rattle.class_types.specs.FoundFaults.{first_from, found, too_large, type_fault, count_fault, wide, part_faults};
+ghost use Rattle.class_types.specs.FoundFaults.{first_from, found, type_fault, count_fault, wide, part_faults};
 ghost use Rattle.class_types.specs.Made.{look};
-ghost use Rattle.class_types.specs.SourceParts.{annotation, arguments, callables, callables_all};
+ghost use Rattle.script_rules.specs.SourceParts.{annotation, arguments, callables, callables_all};
 
 use crate::first::sooner;
-use crate::measure::{Size, size_of};
+use crate::measure::size_of;
+use mono_tree::Size;
 use crate::names::ClassNames;
 use mono_syntax::{Ann, AnnForm, Place, Reason, Refusal};
 
@@ -16,18 +17,12 @@ pub struct Sizes {
     pub own: Vec<Option<Size>>,
 }
 
-fn too_large(size: Size) -> bool
-    ensures { result ≡ too_large size }
-{
-    size.nodes > 1024 || size.depth > 32
-}
-
 /// A type has over 1,024 nodes or a depth over 32.
 pub fn type_fault(so_far: Option<Refusal>, place: Place, size: Option<Size>) -> Option<Refusal>
     ensures { result ≡ first_from so_far (type_fault place size) }
 {
     match size {
-        Some(size) if too_large(size) => {
+        Some(size) if size.is_too_large() => {
             let reason = Reason::TypeTooLarge;
             sooner(so_far, Refusal { place, reason })
         }

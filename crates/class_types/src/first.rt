@@ -1,5 +1,5 @@
 ghost use Rattle.std.specs.Prelude.{◌≡◌, IsTrue, ◌↔◌, Some};
-ghost use Rattle.class_types.specs.FirstFault.{no_later, sooner};
+ghost use Rattle.script_rules.specs.FirstFault.{no_later, sooner};
 
 use mono_syntax::{Place, Reason, Refusal};
 

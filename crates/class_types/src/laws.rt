@@ -8,7 +8,7 @@ ghost use Rattle.mono_syntax.specs.Ty.{Ty, Fields};
 ghost use Rattle.mono_tree.specs.FieldNames.{names_of};
 ghost use Rattle.mono_tree.specs.IsType.{AreInOrder, IsType};
 ghost use Rattle.script_rules.specs.Writes.{Writes, WritesAny, IsClassType, IsFunctionType, in_order};
-ghost use Rattle.class_types.specs.WellFormed.{AreApart, IsNarrow, AreWellFormed};
+ghost use Rattle.script_rules.specs.WellFormed.{AreApart, IsNarrow, AreWellFormed};
 
 /// An annotation writes one type at most, and a class or a function has one at most.
 pub fn written_types_are_unique()

@@ -3,7 +3,7 @@ ghost use Rattle.mono_syntax.specs.AnnView.{anns};
 ghost use Rattle.class_types.specs.FoundFaults.{first_from, found};
 ghost use Rattle.class_types.specs.Leading.{is_marked, word_fault, leads_now, mark, mark_round, unmarked, AreLeading};
 ghost use Rattle.class_types.specs.Made.{names_of_classes};
-ghost use Rattle.class_types.specs.Recursion.{names_in, names_in_all, field_names};
+ghost use Rattle.script_rules.specs.Recursion.{names_in, names_in_all, field_names};
 
 use crate::first::sooner;
 use crate::names::ClassNames;

@@ -1,49 +1,12 @@
 ghost use Rattle.std.specs.Prelude.{◌≡◌, ◌≤◌, length};
 ghost use Rattle.mono_syntax.specs.AnnView.{anns};
 ghost use Rattle.class_types.specs.Made.{look};
-ghost use Rattle.class_types.specs.Measured.{joined, grown, leaf, nothing, size_by, sizes_onto, fields_onto, class_size_by, any_size_by, params_onto, function_size_by};
+ghost use Rattle.mono_tree.specs.CountedSizes.{nothing};
+ghost use Rattle.class_types.specs.Measured.{size_by, sizes_onto, fields_onto, class_size_by, any_size_by, params_onto, function_size_by};
 
 use crate::names::ClassNames;
 use mono_syntax::{Ann, AnnForm, ClassDef, FieldDef, FuncDef, Name, Param};
-
-/// The nodes and the depth of a type, counted up to one more than a type may have.
-#[derive(Clone, Copy, Debug, PartialEq, Eq)]
-pub struct Size {
-    pub nodes: u32,
-    pub depth: u32,
-}
-
-/// One more than the nodes that a type may have.
-const MANY_NODES: u32 = 1025;
-
-/// One more than the depth that a type may have.
-const DEEP: u32 = 33;
-
-/// A type without parts.
-pub const LEAF: Size = Size { nodes: 1, depth: 1 };
-
-/// No part yet.
-const NOTHING: Size = Size { nodes: 0, depth: 0 };
-
-/// Some parts and one more.
-fn joined(a: Size, b: Size) -> Size
-    ensures { result ≡ joined a b }
-{
-    Size {
-        nodes: a.nodes.saturating_add(b.nodes).min(MANY_NODES),
-        depth: a.depth.max(b.depth),
-    }
-}
-
-/// The whole of some parts.
-fn grown(parts: Size) -> Size
-    ensures { result ≡ grown parts }
-{
-    Size {
-        nodes: parts.nodes.saturating_add(1).min(MANY_NODES),
-        depth: parts.depth.saturating_add(1).min(DEEP),
-    }
-}
+use mono_tree::Size;
 
 /// The size of a class's type by its name; a name of no class counts as `stray`.
 fn class_size(
@@ -78,9 +41,9 @@ pub fn size_of(
         AnnForm::Fun(params, out) => {
             let parts = sizes_of(names, own, stray, params.as_slice())?;
             let out = size_of(names, own, stray, out.get())?;
-            Some(grown(joined(parts, out)))
+            Some(parts.joined(out).grown())
         }
-        _ => Some(LEAF),
+        _ => Some(Size::LEAF),
     }
 }
 
@@ -94,10 +57,10 @@ fn sizes_of(
 ) -> Option<Size>
     ensures { result ≡ sizes_onto (look names.now own.now stray) nothing (anns list.now) }
 {
-    let mut parts = NOTHING;
+    let mut parts = Size::NOTHING;
     for ann in list {
         let size = size_of(names, own, stray, ann)?;
-        parts = joined(parts, size);
+        parts = parts.joined(size);
     }
     Some(parts)
 }
@@ -112,7 +75,7 @@ pub fn size_of_class(
     ensures { result ≡ class_size_by (look names.now own.now stray) class.now }
 {
     let parts = size_of_fields(names, own, stray, class.fields.as_slice())?;
-    Some(grown(parts))
+    Some(parts.grown())
 }
 
 fn size_of_fields(
@@ -123,10 +86,10 @@ fn size_of_fields(
 ) -> Option<Size>
     ensures { result ≡ fields_onto (look names.now own.now stray) nothing list.now }
 {
-    let mut parts = NOTHING;
+    let mut parts = Size::NOTHING;
     for field in list {
         let size = size_of(names, own, stray, &field.ann)?;
-        parts = joined(parts, size);
+        parts = parts.joined(size);
     }
     Some(parts)
 }
@@ -141,7 +104,7 @@ fn size_of_any(
 {
     match ann {
         Some(ann) => size_of(names, own, stray, ann),
-        None => Some(LEAF),
+        None => Some(Size::LEAF),
     }
 }
 
@@ -153,10 +116,10 @@ fn size_of_params(
 ) -> Option<Size>
     ensures { result ≡ params_onto (look names.now own.now stray) nothing params.now }
 {
-    let mut parts = NOTHING;
+    let mut parts = Size::NOTHING;
     for param in params {
         let size = size_of_any(names, own, stray, &param.ann)?;
-        parts = joined(parts, size);
+        parts = parts.joined(size);
     }
     Some(parts)
 }
@@ -172,5 +135,5 @@ pub fn size_of_function(
 {
     let parts = size_of_params(names, own, stray, function.params.as_slice())?;
     let out = size_of_any(names, own, stray, &function.result)?;
-    Some(grown(joined(parts, out)))
+    Some(parts.joined(out).grown())
 }

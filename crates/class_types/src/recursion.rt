@@ -1,13 +1,14 @@
 ghost use Rattle.std.specs.Prelude.{◌≡◌, ◌↔◌, map, slice_get, Some, IsTrue, IfOk, MatchOption};
 ghost use Rattle.script_rules.specs.Scoping.{class_list};
-ghost use Rattle.class_types.specs.FirstFault.{IsFirst, IsFaultless};
+ghost use Rattle.script_rules.specs.FirstFault.{IsFirst, IsFaultless};
 ghost use Rattle.class_types.specs.Leading.{IsSized, AddsFaults};
 ghost use Rattle.class_types.specs.Made.{place_in, names_of_classes};
-ghost use Rattle.class_types.specs.Measured.{leaf, AreMeasured};
-ghost use Rattle.class_types.specs.Recursion.{IsRecursive};
+ghost use Rattle.mono_tree.specs.CountedSizes.{leaf};
+ghost use Rattle.class_types.specs.Measured.{AreMeasured};
+ghost use Rattle.script_rules.specs.Recursion.{IsRecursive};
 
 use crate::leading::{leading, named_in_fields};
-use crate::measure::{LEAF, Size};
+use mono_tree::Size;
 use crate::names::ClassNames;
 use crate::settle::{classes_of, names_of};
 use crate::sized::{last_first, sized};
@@ -90,7 +91,7 @@ pub fn recursive_fault(alloc: Global, script: &Script) -> Result<Option<Refusal>
         alloc,
         &names,
         classes.as_slice(),
-        Some(LEAF),
+        Some(Size::LEAF),
         order.as_slice(),
     )?;
     first_fault(alloc, &names, classes.as_slice(), own.as_slice())

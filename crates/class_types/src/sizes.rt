@@ -1,12 +1,12 @@
 ghost use Rattle.std.specs.Prelude.{◌≡◌, [], None, IfOk, MatchOption};
 ghost use Rattle.mono_syntax.specs.declared.tree.Item.TheVariants as item;
 ghost use Rattle.script_rules.specs.Definitions.{classes_of};
-ghost use Rattle.class_types.specs.FirstFault.{IsFirst, IsFaultless};
+ghost use Rattle.script_rules.specs.FirstFault.{IsFirst, IsFaultless};
 ghost use Rattle.class_types.specs.FoundFaults.{first_from, found, part_faults, own_faults, items_faults, parts_faults};
 ghost use Rattle.class_types.specs.Made.{look, names_of_classes};
 ghost use Rattle.class_types.specs.Measured.{AreMeasured};
-ghost use Rattle.class_types.specs.SizeFaults.{SizeFault};
-ghost use Rattle.class_types.specs.SourceParts.{field_parts, param_parts, item_parts, any_ann, body_parts};
+ghost use Rattle.script_rules.specs.SizeFaults.{SizeFault};
+ghost use Rattle.script_rules.specs.SourceParts.{field_parts, param_parts, item_parts, any_ann, body_parts};
 
 use crate::block::{main_faults, names_faults};
 use crate::faults::{Sizes, ann_faults, count_fault, type_fault};

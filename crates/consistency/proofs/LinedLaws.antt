@@ -15,7 +15,7 @@ use Rattle.mono_syntax.specs.Stmt.{Stmt, Block, no_stmts, more_stmts, Branches, 
 use Rattle.mono_syntax.specs.Ty.{Ty, dyn, bool}
 use Rattle.mono_tree.specs.Precise.{below_dyn}
 use Rattle.mono_tree.proofs.Order.{reflexive}
-use Rattle.mono_tree.specs.WellTyped.{type_of_name}
+use Rattle.mono_tree.specs.TypedPrograms.{type_of_name}
 use Rattle.static_types.specs.declared.rule.Rule.{Rule}
 use Rattle.static_types.specs.Faults.{UseFault}
 use Rattle.static_types.specs.Lines.{returned, line_parts, AssignRule, WriteRule, ReturnRule, LineRule, TypedLine, line, branches, loops, TypedGuarded, guards, TypedBranches, no_branch, next_branch, TypedElse, no_last, at_last, TypedBlock, ends, goes_on}
@@ -23,7 +23,8 @@ use Rattle.static_types.specs.LineFaults.{StartFault, LineFault, in_part, no_rul
 use Rattle.static_types.specs.Members.{all_dyn}
 use Rattle.static_types.specs.Names.{Names}
 use Rattle.static_types.specs.Rules.{member_of, at}
-use Rattle.static_types.specs.Types.{Consistent, AllConsistent, Types, TypeAll, of_none}
+use Rattle.static_types.specs.Types.{AllConsistent, Types, TypeAll, of_none}
+use Rattle.mono_tree.specs.Meet.{Consistent}
 use Rattle.known_names.specs.declared.known.Known.{Known}
 use Rattle.known_names.specs.declared.known.Local.{Local}
 use Rattle.known_names.specs.IsKnown.{IsKnown, names_in}

@@ -17,7 +17,7 @@ use Rattle.mono_syntax.specs.Expr as expr
 use Rattle.mono_syntax.specs.Expr.{Expr, Exprs}
 use Rattle.mono_syntax.specs.Ty.{Ty, dyn, int, bool, str, nil, fun, obj}
 use Rattle.mono_syntax.specs.TyView.{tys_list, fields}
-use Rattle.mono_tree.specs.WellTyped.{type_of_name}
+use Rattle.mono_tree.specs.TypedPrograms.{type_of_name}
 use Rattle.script_rules.specs.Definitions.{function_named}
 use Rattle.static_types.specs.declared.rule.Rule.{Rule}
 use Rattle.static_types.specs.Members.{field_types, all_dyn}

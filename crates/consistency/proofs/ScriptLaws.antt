@@ -24,7 +24,7 @@ use Rattle.static_types.specs.Lines.{TypedLine, TypedBlock}
 use Rattle.static_types.specs.Names.{Names}
 use Rattle.static_types.specs.Rules.{at}
 use Rattle.static_types.specs.Scripts.{IsFunctionScope, TypedFunction, FunctionFault, in_body, at_end, TypedItems, no_item, class_item, function_item, line_item, ItemFault, in_function, in_line, behind_class, behind_function, behind_line, IsTypeFault}
-use Rattle.static_types.specs.Types.{Consistent}
+use Rattle.mono_tree.specs.Meet.{Consistent}
 use Rattle.static_types.specs.Typing.{AllStand, IsTyping, IsFault, Refuses}
 use Rattle.static_types.proofs.ScriptLaws.{script_or_fault, script_fault_once}
 use Rattle.known_names.specs.declared.known.Known.{Known}

@@ -6,12 +6,12 @@ use Rattle.mono_syntax.specs.declared.leaf.Place.{Place}
 use Rattle.mono_syntax.specs.declared.refusal.Reason.TheVariants.{Inconsistent}
 use Rattle.mono_syntax.specs.Expr.{Expr}
 use Rattle.mono_syntax.specs.Ty.{Ty}
-use Rattle.mono_tree.specs.Meet.{AreApart, meet}
+use Rattle.mono_tree.specs.Meet.{AreApart, meet_of, Consistent}
 use Rattle.mono_tree.proofs.MeetMade.{meet_is, none_apart}
 use Rattle.static_types.specs.Faults.{UseFault, here, later}
 use Rattle.static_types.specs.Rules.{at}
 use Rattle.static_types.specs.SourcePlaces.{place_of}
-use Rattle.static_types.specs.Types.{Consistent, AllConsistent}
+use Rattle.static_types.specs.Types.{AllConsistent}
 use Rattle.known_names.specs.TypeList.{consistent}
 use Rattle.consistency.specs.declared.parts.Part.{Part}
 use Rattle.consistency.specs.Ruled.{types_of, first_apart}
@@ -30,16 +30,16 @@ IsUsed es xs ts (Some p) = UseFault es (types_of xs) ts (at p Inconsistent)
 -- ---- meets
 
 pub consistent_is : (a b : Ty) → consistent a b ≡ true → Consistent a b
-consistent_is a b = go (meet a b) refl
+consistent_is a b = go (meet_of a b) refl
   where
-    go : (o : Option Ty) → meet a b ≡ o → consistent a b ≡ true → Consistent a b
+    go : (o : Option Ty) → meet_of a b ≡ o → consistent a b ≡ true → Consistent a b
     go (Some m) e h = record { meet = m; is_meet = meet_is a b m e }
     go None e h = let g : false ≡ true = ap (λ (z : Option Ty). is_some z) (sym e) ∙ h in absurd cc
 
 pub apart_is : (a b : Ty) → consistent a b ≡ false → AreApart a b
-apart_is a b = go (meet a b) refl
+apart_is a b = go (meet_of a b) refl
   where
-    go : (o : Option Ty) → meet a b ≡ o → consistent a b ≡ false → AreApart a b
+    go : (o : Option Ty) → meet_of a b ≡ o → consistent a b ≡ false → AreApart a b
     go None e h = none_apart a b e
     go (Some m) e h = let g : true ≡ false = ap (λ (z : Option Ty). is_some z) (sym e) ∙ h in absurd cc
 

@@ -8,7 +8,7 @@ use Rattle.mono_syntax.specs.Expr.{Expr, Exprs}
 use Rattle.mono_syntax.specs.Stmt as stmt
 use Rattle.mono_syntax.specs.Stmt.{Stmt, Block, no_stmts, more_stmts, Branches, no_branches, more_branches, Else, no_else, otherwise}
 use Rattle.mono_syntax.specs.Ty.{Ty, dyn, bool}
-use Rattle.mono_tree.specs.WellTyped.{type_of_name}
+use Rattle.mono_tree.specs.TypedPrograms.{type_of_name}
 use Rattle.static_types.specs.Lines.{returned}
 use Rattle.static_types.specs.Rules.{at}
 use Rattle.known_names.specs.declared.known.Known.{Known}

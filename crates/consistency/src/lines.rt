@@ -3,7 +3,7 @@ ghost use Rattle.std.specs.Option.{option_copied};
 ghost use Rattle.mono_syntax.specs.ExprView.{exprs};
 ghost use Rattle.mono_syntax.specs.Stmt.{give, plain, write, start};
 ghost use Rattle.mono_syntax.specs.StmtView.{block, branches, else_block};
-ghost use Rattle.mono_tree.specs.WellTyped.{type_of_name};
+ghost use Rattle.mono_tree.specs.TypedPrograms.{type_of_name};
 ghost use Rattle.static_types.specs.Lines.{returned};
 ghost use Rattle.known_names.specs.Gives.{Gives};
 ghost use Rattle.consistency.specs.Checked.{all_typed, no_parts};

@@ -8,7 +8,7 @@ use Rattle.mono_syntax.specs.Ann.{Ann, ann, Anns, no_anns, more_anns}
 use Rattle.mono_syntax.specs.Ann as form
 use Rattle.mono_syntax.specs.Ty.{Ty, dyn, int, bool, str, nil, fun}
 use Rattle.mono_syntax.specs.TyView.{tys}
-use Rattle.mono_tree.specs.WellTyped.{type_of_name}
+use Rattle.mono_tree.specs.TypedPrograms.{type_of_name}
 use Rattle.known_names.specs.TypeList.{type_or_dyn}
 
 abbrev mutual

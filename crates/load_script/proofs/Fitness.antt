@@ -12,14 +12,14 @@ use Rattle.mono_syntax.specs.Ann.{Ann, ann, Form, class, fun, Anns, no_anns, mor
 use Rattle.mono_syntax.specs.Ann as form
 use Rattle.script_rules.specs.Definitions.{classes_of}
 use Rattle.script_rules.specs.Scoping.{class_list}
-use Rattle.class_types.specs.SizeFaults.{wide_callable}
-use Rattle.class_types.specs.SourceParts.{Counted, callables, callables_all, count_of, Part, annotation, field_parts, item_parts, parts_of}
-use Rattle.name_scope.specs.declared.occurrence.Occurrence.{Occurrence}
-use Rattle.name_scope.specs.declared.occurrence.Role.TheVariants as role
-use Rattle.name_scope.specs.NameFaults.{BodyFault, field_twice}
-use Rattle.name_scope.specs.Occurrences.{at, in_ann, in_field, in_class, definitions, body_of, in_main, bodies}
-use Rattle.name_scope.specs.Rules.{is_field, Stands}
-use Rattle.name_scope.specs.ScopeFaults.{IsRight}
+use Rattle.script_rules.specs.SizeFaults.{wide_callable}
+use Rattle.script_rules.specs.SourceParts.{Counted, callables, callables_all, count_of, Part, annotation, field_parts, item_parts, parts_of}
+use Rattle.script_rules.specs.declared.occurrence.Occurrence.{Occurrence}
+use Rattle.script_rules.specs.declared.occurrence.Role.TheVariants as role
+use Rattle.script_rules.specs.NameFaults.{BodyFault, field_twice}
+use Rattle.script_rules.specs.Occurrences.{at, in_ann, in_field, in_class, definitions, body_of, in_main, bodies}
+use Rattle.script_rules.specs.NameRules.{is_field, Stands}
+use Rattle.script_rules.specs.ScopeFaults.{IsRight}
 use Rattle.typing_rules.specs.ClassLimits.{ann_count, IsNarrow, AreNarrow, AreDifferent, AreFit}
 
 head_stands : {A : Type 0} (x : A) (xs : List A) → Contains (x ∷ xs) x

@@ -10,10 +10,10 @@ use Rattle.mono_syntax.specs.declared.script.Scoped.{Scoped}
 use Rattle.mono_syntax.specs.declared.tree.Script.{Script}
 use Rattle.mono_syntax.specs.StmtView.{block}
 use Rattle.built_forms.specs.BuiltTrees.{IsBuiltTree}
-use Rattle.class_types.specs.FirstFault.{IsFirst, IsFaultless}
-use Rattle.class_types.specs.SizeFaults.{SizeFault}
-use Rattle.name_scope.specs.ScopeFaults as scope
-use Rattle.name_scope.specs.ScopeFaults.{ScopeFault, IsRight, IsScopeRefusal}
+use Rattle.script_rules.specs.FirstFault.{IsFirst, IsFaultless}
+use Rattle.script_rules.specs.SizeFaults.{SizeFault}
+use Rattle.script_rules.specs.ScopeFaults as scope
+use Rattle.script_rules.specs.ScopeFaults.{ScopeFault, IsRight, IsScopeRefusal}
 use Rattle.script_casts.specs.Refusals.{Refuses}
 use Rattle.script_rules.specs.BlockNames.{firsts, all_targets}
 use Rattle.script_rules.specs.Scoping.{IsScope, class_list, main_block}

@@ -7,9 +7,9 @@ use Rattle.mono_syntax.specs.declared.refusal.LoadFault.TheVariants.{Refused, Me
 use Rattle.mono_syntax.specs.declared.refusal.Refusal.{Refusal}
 use Rattle.mono_syntax.specs.declared.script.Scoped.{Scoped}
 use Rattle.mono_syntax.specs.declared.tree.Script.{Script}
-use Rattle.class_types.specs.FirstFault.{IsFirst, IsFaultless}
-use Rattle.class_types.specs.SizeFaults.{SizeFault}
-use Rattle.name_scope.specs.ScopeFaults.{ScopeFault, IsRight}
+use Rattle.script_rules.specs.FirstFault.{IsFirst, IsFaultless}
+use Rattle.script_rules.specs.SizeFaults.{SizeFault}
+use Rattle.script_rules.specs.ScopeFaults.{ScopeFault, IsRight}
 use Rattle.mono_syntax.specs.StmtView.{block}
 use Rattle.mono_syntax.specs.Ty.{Ty}
 use Rattle.built_forms.specs.BuiltTrees.{IsBuiltTree}

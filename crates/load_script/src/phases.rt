@@ -1,10 +1,10 @@
 ghost use Rattle.std.specs.Prelude.{◌≡◌, ◌≤◌, length, chars, IfOk, IfErr};
 ghost use Rattle.std.specs.Str.{IsUtf8};
 ghost use Rattle.mono_syntax.specs.declared.refusal.Refusal.{Refusal};
-ghost use Rattle.mono_tree.specs.WellTyped.{IsWellTypedProgram};
+ghost use Rattle.mono_tree.specs.TypedPrograms.{IsTypedProgram};
 ghost use Rattle.py_lexer.specs.Lexes.{Lexes};
-ghost use Rattle.class_types.specs.FirstFault.{IsFaultless};
-ghost use Rattle.class_types.specs.SizeFaults.{SizeFault};
+ghost use Rattle.script_rules.specs.FirstFault.{IsFaultless};
+ghost use Rattle.script_rules.specs.SizeFaults.{SizeFault};
 ghost use Rattle.built_forms.specs.BuiltTrees.{IsBuiltTree};
 ghost use Rattle.parse_script.specs.Shapes.{IsShaped};
 ghost use Rattle.load_script.specs.TreePhases.{IsTreeProgram, RefusesTree, HasBuiltForms, IsFault, Gives};
@@ -33,7 +33,7 @@ fn load_sized(alloc: Global, script: &Script) -> Result<CastScript, LoadFault>
     ensures accepted { IfOk result (IsTreeProgram script.now) }
     ensures refused { IfErr result (IsFault (RefusesTree script.now)) }
     ensures refuses { (r : Refusal) → RefusesTree script.now r → Gives result r }
-    ensures typed { IfOk result IsWellTypedProgram }
+    ensures typed { IfOk result IsTypedProgram }
 {
     match scope(alloc, script) {
         Ok(scoped) => with_casts(alloc, scoped),
@@ -48,7 +48,7 @@ fn load_built(alloc: Global, script: &Script) -> Result<CastScript, LoadFault>
     ensures accepted { IfOk result (IsTreeProgram script.now) }
     ensures refused { IfErr result (IsFault (RefusesTree script.now)) }
     ensures refuses { (r : Refusal) → RefusesTree script.now r → Gives result r }
-    ensures typed { IfOk result IsWellTypedProgram }
+    ensures typed { IfOk result IsTypedProgram }
 {
     match size_refusal(alloc, script) {
         Ok(None) => load_sized(alloc, script),
@@ -62,7 +62,7 @@ fn load_tree(alloc: Global, script: &Script) -> Result<CastScript, LoadFault>
     ensures accepted { IfOk result (IsTreeProgram script.now) }
     ensures refused { IfErr result (IsFault (RefusesTree script.now)) }
     ensures refuses { (r : Refusal) → RefusesTree script.now r → Gives result r }
-    ensures typed { IfOk result IsWellTypedProgram }
+    ensures typed { IfOk result IsTypedProgram }
 {
     if is_built(script) {
         load_built(alloc, script)
@@ -77,7 +77,7 @@ fn load_tokens(alloc: Global, tokens: &[Token], text: &str) -> Result<CastScript
     ensures accepted { IfOk result (IsTokensProgram text.now tokens.now) }
     ensures refused { IfErr result (IsFault (RefusesTokens text.now tokens.now)) }
     ensures refuses { (r : Refusal) → RefusesTokens text.now tokens.now r → Gives result r }
-    ensures typed { IfOk result IsWellTypedProgram }
+    ensures typed { IfOk result IsTypedProgram }
 {
     match parse(alloc, tokens, text) {
         Ok(script) => load_tree(alloc, &script),
@@ -90,7 +90,7 @@ fn load_text(alloc: Global, text: &str) -> Result<CastScript, LoadFault>
     ensures accepted { IfOk result (IsTextProgram text.now) }
     ensures refused { IfErr result (IsFault (RefusesText text.now)) }
     ensures refuses { (r : Refusal) → RefusesText text.now r → Gives result r }
-    ensures typed { IfOk result IsWellTypedProgram }
+    ensures typed { IfOk result IsTypedProgram }
 {
     match lex(alloc, text) {
         Ok(tokens) => load_tokens(alloc, tokens.as_slice(), text),
@@ -109,7 +109,7 @@ pub fn load(alloc: Global, bytes: &[u8]) -> Result<CastScript, LoadFault>
     // What the rules refuse is refused so, unless there is no memory.
     ensures refuses { (r : Refusal) → IsFirstRefusal bytes.now r → Gives result r }
 
-    ensures typed { IfOk result IsWellTypedProgram }
+    ensures typed { IfOk result IsTypedProgram }
 {
     match decode(bytes) {
         Ok(text) => load_text(alloc, text),

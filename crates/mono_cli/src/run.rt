@@ -1,5 +1,5 @@
 ghost use Rattle.std.specs.Prelude.{◌≡◌, ◌≤◌, length, IfOk};
-ghost use Rattle.mono_tree.specs.WellTyped.{IsWellTypedProgram};
+ghost use Rattle.mono_tree.specs.TypedPrograms.{IsTypedProgram};
 ghost use Rattle.mono_cli.specs.Scripts.{RunsTo, AnswersText, IsAccepted, IsRunAnswer};
 ghost use Rattle.mono_cli.specs.Showing.{Shows};
 ghost use Rattle.tree_print.specs.Reading.{IsGrammatical};
@@ -25,7 +25,7 @@ const DEFAULT_SEED: u64 = 0;
 
 /// The run of a script to its end.
 fn run(alloc: Global, script: &CastScript) -> Result<Config, AllocError>
-    requires { IsWellTypedProgram script.now }
+    requires { IsTypedProgram script.now }
     ensures { IfOk result (λ last. RunsTo script.now last) }
 {
     let config = Config::new(alloc, script, DEFAULTS)?;
@@ -34,7 +34,7 @@ fn run(alloc: Global, script: &CastScript) -> Result<Config, AllocError>
 
 /// Runs a script, and then shows what it printed and how it ended.
 fn show_script<K: Sink, E: Sink>(alloc: Global, script: &CastScript, out: &mut K, err: &mut E) -> u8
-    requires { IsWellTypedProgram script.now }
+    requires { IsTypedProgram script.now }
     ensures { Shows (λ a. IsRunAnswer script.now a) (K.told out.old) (K.told out.new) (K.faults out.old) (K.faults out.new)
         (E.told err.old) (E.told err.new) (E.faults err.old) (E.faults err.new) result }
 {
@@ -66,7 +66,7 @@ fn show_accepted<K: Sink, E: Sink>(
     out: &mut K,
     err: &mut E,
 ) -> u8
-    requires typed { IsWellTypedProgram script.now }
+    requires typed { IsTypedProgram script.now }
     requires tree { IsGrammatical script.now.scoped.script }
     ensures { Shows (λ a. IsAccepted verb script.now a) (K.told out.old) (K.told out.new) (K.faults out.old) (K.faults out.new)
         (E.told err.old) (E.told err.new) (E.faults err.old) (E.faults err.new) result }

@@ -1,3 +1,4 @@
 pub mod Reversed
 pub mod Sets
 pub mod Cases
+pub mod Sizes

@@ -6,7 +6,9 @@
 mod shared;
 mod slots;
 mod stack;
+mod tiers;
 
 pub use shared::Shared;
 pub use slots::Slots;
 pub use stack::Stack;
+pub use tiers::Tiers;

@@ -1,3 +1,4 @@
+pub mod Limits
 pub mod Leaf
 pub mod Ty
 pub mod TyView
@@ -17,3 +18,5 @@ pub mod CastExprFalls
 pub mod CastStmt
 pub mod CastStmtView
 pub mod CastStmtFalls
+pub mod TyEq
+pub mod TyEqLaws

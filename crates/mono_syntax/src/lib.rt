@@ -4,8 +4,10 @@
 
 mod cast;
 mod leaf;
+mod limits;
 mod name;
 mod refusal;
+mod same;
 mod script;
 mod tree;
 mod value;
@@ -15,6 +17,10 @@ pub use cast::{
     CastStmt, CastStmtKind, NamedType, StmtList,
 };
 pub use leaf::{Kind, Op, Place, Site, TyAt, Word};
+pub use limits::{
+    GREATEST_DEPTH, GREATEST_INTEGER, GREATEST_WEIGHT, MOST_ARGUMENTS, MOST_BLOCKS, MOST_BYTES,
+    MOST_FIELDS, MOST_ITEMS, MOST_NAMES, MOST_NODES, MOST_PARAMETERS, MOST_THREADS,
+};
 pub use name::Name;
 pub use refusal::{LoadFault, Reason, Refusal};
 pub use script::{BlockNames, Scoped, Typed, TypedName};

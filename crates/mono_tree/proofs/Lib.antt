@@ -12,3 +12,4 @@ pub mod PreciseTest
 pub mod TypeLaws
 pub mod AsComputed
 pub mod Names
+pub mod SizeLaws

@@ -5,7 +5,7 @@ use Rattle.std.specs.Option.{option_map}
 use Rattle.mono_syntax.specs.declared.tree.Field as rust_field
 use Rattle.mono_syntax.specs.Ty.{Ty, Tys, no_tys, more_tys, Fields, no_fields, more_fields}
 use Rattle.mono_syntax.specs.TyView.{tys, fields}
-use Rattle.mono_tree.specs.Meet.{both, meet, meet_all, meet_fields}
+use Rattle.mono_tree.specs.Meet.{both, meet_of, meet_all, meet_fields}
 use Rattle.mono_tree.proofs.MeetMade.{named, unnamed}
 
 abbrev pub append : List Ty → Tys → Tys
@@ -20,7 +20,7 @@ pub append-end : (ms : List Ty) → append ms no_tys ≡ tys ms
 append-end [] = refl
 append-end (m ∷ ms) = ap (more_tys m) (append-end ms)
 
-pub meet_all-step : (made : List Ty) (t u m : Ty) (ts us : Tys) → meet t u ≡ Some m
+pub meet_all-step : (made : List Ty) (t u m : Ty) (ts us : Tys) → meet_of t u ≡ Some m
     → option_map (append (made ++ m ∷ [])) (meet_all ts us) ≡ option_map (append made) (meet_all (more_tys t ts) (more_tys u us))
 meet_all-step made t u m ts us e = rw e (go (meet_all ts us))
   where
@@ -28,14 +28,14 @@ meet_all-step made t u m ts us e = rw e (go (meet_all ts us))
     go None = refl
     go (Some rest) = ap Some (append-push made m rest)
 
-pub meet_all-stop : (made : List Ty) (t u : Ty) (ts us : Tys) → meet t u ≡ None → option_map (append made) (meet_all (more_tys t ts) (more_tys u us)) ≡ None
+pub meet_all-stop : (made : List Ty) (t u : Ty) (ts us : Tys) → meet_of t u ≡ None → option_map (append made) (meet_all (more_tys t ts) (more_tys u us)) ≡ None
 meet_all-stop made t u ts us e = rw e
 
 pub meet_all-uneven : (ts us : List Ty) → (length ts ≡ length us → ⊥) → meet_all (tys ts) (tys us) ≡ None
 meet_all-uneven [] [] h = absurd (h refl)
 meet_all-uneven [] (u ∷ us) h = refl
 meet_all-uneven (t ∷ ts) [] h = refl
-meet_all-uneven (t ∷ ts) (u ∷ us) h = rw (meet_all-uneven ts us (λ e. h (ap suc e))) (go (meet t u))
+meet_all-uneven (t ∷ ts) (u ∷ us) h = rw (meet_all-uneven ts us (λ e. h (ap suc e))) (go (meet_of t u))
   where
     go : (m : Option Ty) → both more_tys m None ≡ None
     go None = refl
@@ -64,7 +64,7 @@ pub append_fields-end : (ms : List rust_field.Field) → append_fields ms no_fie
 append_fields-end [] = refl
 append_fields-end (m ∷ ms) = ap (more_fields m.name m.ty) (append_fields-end ms)
 
-pub meet_fields-step : (made : List rust_field.Field) (l n k : List ℕ) (t u m : Ty) (fs gs : Fields) → l ≡ n → n ≡ k → meet t u ≡ Some m
+pub meet_fields-step : (made : List rust_field.Field) (l n k : List ℕ) (t u m : Ty) (fs gs : Fields) → l ≡ n → n ≡ k → meet_of t u ≡ Some m
     → option_map (append_fields (made ++ (record { name = l; ty = m }) ∷ [])) (meet_fields fs gs) ≡ option_map (append_fields made) (meet_fields (more_fields n t fs) (more_fields k u gs))
 meet_fields-step made l n k t u m fs gs c d e = rw (c, named n k d, e) (go (meet_fields fs gs))
   where
@@ -72,7 +72,7 @@ meet_fields-step made l n k t u m fs gs c d e = rw (c, named n k d, e) (go (meet
     go None = refl
     go (Some rest) = ap Some (append_fields-push made (record { name = n; ty = m }) rest)
 
-pub meet_fields-stop : (made : List rust_field.Field) (n k : List ℕ) (t u : Ty) (fs gs : Fields) → n ≡ k → meet t u ≡ None → option_map (append_fields made) (meet_fields (more_fields n t fs) (more_fields k u gs)) ≡ None
+pub meet_fields-stop : (made : List rust_field.Field) (n k : List ℕ) (t u : Ty) (fs gs : Fields) → n ≡ k → meet_of t u ≡ None → option_map (append_fields made) (meet_fields (more_fields n t fs) (more_fields k u gs)) ≡ None
 meet_fields-stop made n k t u fs gs d e = rw (named n k d, e)
 
 pub meet_fields-unnamed : (made : List rust_field.Field) (n k : List ℕ) (t u : Ty) (fs gs : Fields) → (n ≡ k → ⊥) → option_map (append_fields made) (meet_fields (more_fields n t fs) (more_fields k u gs)) ≡ None
@@ -82,7 +82,7 @@ pub meet_fields-uneven : (fs gs : List rust_field.Field) → (length fs ≡ leng
 meet_fields-uneven [] [] h = absurd (h refl)
 meet_fields-uneven [] (g ∷ gs) h = refl
 meet_fields-uneven (f ∷ fs) [] h = refl
-meet_fields-uneven (f ∷ fs) (g ∷ gs) h = rw (meet_fields-uneven fs gs (λ e. h (ap suc e))) (go (bytes_eq f.name g.name) (meet f.ty g.ty))
+meet_fields-uneven (f ∷ fs) (g ∷ gs) h = rw (meet_fields-uneven fs gs (λ e. h (ap suc e))) (go (bytes_eq f.name g.name) (meet_of f.ty g.ty))
   where
     go : (b : Bool) (m : Option Ty) → (if b then both (more_fields f.name) m None else None) ≡ None
     go true None = refl

@@ -7,7 +7,7 @@ use Rattle.mono_tree.specs.FieldNames.{names_of}
 use Rattle.mono_tree.specs.IsType.{IsType}
 use Rattle.mono_tree.specs.Precise.{Precise, below_dyn, both_int, both_bool, both_str, both_nil, both_fun, both_obj, ArePrecise, both_end, both_more, HavePrecise, both_empty, both_field}
 use Rattle.mono_tree.specs.Precision.{precise, precise_all, precise_fields}
-use Rattle.mono_tree.specs.Meet.{meet, meet_all, meet_fields}
+use Rattle.mono_tree.specs.Meet.{meet_of, meet_all, meet_fields}
 use Rattle.mono_tree.specs.Static.{IsStatic, AreStatic, HaveStatic, is_static, all_static, fields_static}
 use Rattle.mono_tree.proofs.Order.{reflexive, all_reflexive, fields_reflexive, transitive, all_transitive, fields_transitive, antisymmetric, all_antisymmetric, fields_antisymmetric}
 use Rattle.mono_tree.proofs.Meets.{all_left, all_right, fields_left, fields_right, names-meet, meets_type}
@@ -46,7 +46,7 @@ fields_antisym fs gs e f = fields_antisymmetric (precise_fields-read fs gs e) (p
 
 -- ---- the meet is the greatest common lower bound
 
-pub meet_below : (a b m : Ty) → meet a b ≡ Some m → (precise m a ≡ true) × (precise m b ≡ true)
+pub meet_below : (a b m : Ty) → meet_of a b ≡ Some m → (precise m a ≡ true) × (precise m b ≡ true)
 meet_below a b m e = let is = meet_is a b m e in (precise-holds is.left, precise-holds is.right)
 
 pub meet_all_below : (ps qs ms : Tys) → meet_all ps qs ≡ Some ms → (precise_all ms ps ≡ true) × (precise_all ms qs ≡ true)
@@ -55,21 +55,21 @@ meet_all_below ps qs ms e = let all = all_made ps qs ms e in (precise_all-holds 
 pub meet_fields_below : (fs gs ms : Fields) → meet_fields fs gs ≡ Some ms → (precise_fields ms fs ≡ true) × (precise_fields ms gs ≡ true)
 meet_fields_below fs gs ms e = let all = fields_made fs gs ms e in (precise_fields-holds (fields_left all), precise_fields-holds (fields_right all))
 
-pub meet_greatest : (a b m x : Ty) → meet a b ≡ Some m → precise x a ≡ true → precise x b ≡ true → precise x m ≡ true
+pub meet_greatest : (a b m x : Ty) → meet_of a b ≡ Some m → precise x a ≡ true → precise x b ≡ true → precise x m ≡ true
 meet_greatest a b m x e p q = precise-holds ((meet_is a b m e).greatest x (precise-read x a p) (precise-read x b q))
 
 -- where there is a common lower bound there is a meet
-pub meet_found : (a b x : Ty) → precise x a ≡ true → precise x b ≡ true → (m : Ty) × (meet a b ≡ Some m)
+pub meet_found : (a b x : Ty) → precise x a ≡ true → precise x b ≡ true → (m : Ty) × (meet_of a b ≡ Some m)
 meet_found a b x p q = let found = meet_exists x a b (precise-read x a p) (precise-read x b q) in (found.0, computed a b found.0 found.1)
 
 -- the more precise of two is their meet
-pub meet_at : (a b : Ty) → precise a b ≡ true → meet a b ≡ Some a
+pub meet_at : (a b : Ty) → precise a b ≡ true → meet_of a b ≡ Some a
 meet_at a b e = computed a b a (record { left = reflexive a; right = precise-read a b e; greatest = λ x p q. p })
 
-pub meet_at_right : (a b : Ty) → precise b a ≡ true → meet a b ≡ Some b
+pub meet_at_right : (a b : Ty) → precise b a ≡ true → meet_of a b ≡ Some b
 meet_at_right a b e = computed a b b (record { left = precise-read b a e; right = reflexive b; greatest = λ x p q. q })
 
-pub meet_type : (a b m : Ty) → meet a b ≡ Some m → IsType a → IsType b → IsType m
+pub meet_type : (a b m : Ty) → meet_of a b ≡ Some m → IsType a → IsType b → IsType m
 meet_type a b m e = meets_type (made a b m e)
 
 -- ---- a fully static type has nothing below it but itself

@@ -3,6 +3,7 @@ use Rattle.std.specs.Prelude.{◌≡◌, ℕ, ◌+◌, ◌≤◌, List, [], ◌�
 use Rattle.std.specs.Ordering.{nat_cmp}
 use Rattle.std.specs.Cmp.Lexicographic.{slice_cmp}
 use Rattle.std.specs.declared.cmp.Ordering.TheVariants.{Less}
+use Rattle.mono_syntax.specs.Limits.{most_parameters}
 use Rattle.mono_syntax.specs.Ty.{Ty, dyn, int, bool, str, nil, fun, obj, Tys, no_tys, more_tys, Fields, no_fields, more_fields}
 use Rattle.mono_tree.specs.FieldNames.{names_of}
 
@@ -28,7 +29,7 @@ abbrev mutual
   IsType bool = Unit {0}
   IsType str = Unit {0}
   IsType nil = Unit {0}
-  IsType (fun ps r) = (tys_count ps ≤ 8) × AreTypes ps × IsType r
+  IsType (fun ps r) = (tys_count ps ≤ most_parameters) × AreTypes ps × IsType r
   IsType (obj fs) = AreInOrder (names_of fs) × HaveTypes fs
 
   pub AreTypes : Tys → Type 0

@@ -4,8 +4,10 @@ pub mod Precise
 pub mod Precision
 pub mod Meet
 pub mod Static
+pub mod Sizes
+pub mod CountedSizes
 pub mod CastScripts
 pub mod Sites
 pub mod BodyEnds
-pub mod WellTyped
+pub mod TypedPrograms
 pub mod TypeText

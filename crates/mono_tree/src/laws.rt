@@ -1,7 +1,7 @@
 //! What holds of precision and meets whatever the types.
 ghost use Rattle.std.specs.Prelude.{◌≡◌, ◌↔◌, Some, None, option_and_then};
 ghost use Rattle.mono_syntax.specs.Ty.{Ty, dyn};
-ghost use Rattle.mono_tree.specs.Meet.{IsMeet, AreApart, meet, meet_three};
+ghost use Rattle.mono_tree.specs.Meet.{IsMeet, AreApart, meet_of, meet_three};
 ghost use Rattle.mono_tree.specs.Precise.{Precise};
 
 /// Precision is a partial order with `Dyn` above every type. Two types with a common lower bound have a meet, which is
@@ -13,13 +13,13 @@ pub fn meet_laws()
     ensures top { (a : Ty) → Precise a dyn }
 
     // The computed `meet`, of which the laws below speak, is the greatest common lower bound.
-    ensures greatest { (a b m : Ty) → (meet a b ≡ Some m) ↔ IsMeet m a b }
-    ensures apart { (a b : Ty) → (meet a b ≡ None) ↔ AreApart a b }
+    ensures greatest { (a b m : Ty) → (meet_of a b ≡ Some m) ↔ IsMeet m a b }
+    ensures apart { (a b : Ty) → (meet_of a b ≡ None) ↔ AreApart a b }
     ensures exists { (x a b : Ty) → Precise x a → Precise x b → (m : Ty) × IsMeet m a b }
 
-    ensures commutative { (a b : Ty) → meet a b ≡ meet b a }
-    ensures idempotent { (a : Ty) → meet a a ≡ Some a }
-    ensures associative { (a b c : Ty) → meet_three a b c ≡ option_and_then (λ m. meet a m) (meet b c) }
+    ensures commutative { (a b : Ty) → meet_of a b ≡ meet_of b a }
+    ensures idempotent { (a : Ty) → meet_of a a ≡ Some a }
+    ensures associative { (a b c : Ty) → meet_three a b c ≡ option_and_then (λ m. meet_of a m) (meet_of b c) }
 
     // All groupings of three types, in all their orders, give one type, or all of them fail.
     ensures swapped { (a b c : Ty) → meet_three a b c ≡ meet_three b a c }

@@ -7,6 +7,7 @@ mod copy;
 pub mod laws;
 mod meeting;
 mod precision;
+mod size;
 mod statics;
 mod text;
 
@@ -20,6 +21,7 @@ pub use mono_syntax::{
     Ty, TyAt, TyKind, TypeNo, Typed, TypedName, Val, Value, Word,
 };
 pub use precision::precise;
+pub use size::Size;
 pub use statics::is_static;
 pub use text::{type_bytes, type_text};
 

@@ -2,7 +2,7 @@ ghost use Rattle.std.specs.Prelude.{◌≡◌, ◌↔◌, IfOk, IfSome, IsNone};
 ghost use Rattle.std.specs.Option.{option_map};
 ghost use Rattle.mono_syntax.specs.TyView.{tys, fields};
 ghost use Rattle.mono_tree.specs.IsType.{IsType};
-ghost use Rattle.mono_tree.specs.Meet.{IsMeet, AreApart, meet, meet_all, meet_fields};
+ghost use Rattle.mono_tree.specs.Meet.{IsMeet, AreApart, meet_of, meet_all, meet_fields};
 
 use crate::copy::copy_type;
 use crate::precision::same_name;
@@ -22,7 +22,7 @@ pub fn meet(alloc: Global, a: &Ty, b: &Ty) -> Result<Option<Ty>, AllocError>
 
 #[cycle(meets)]
 fn met(alloc: Global, a: &Ty, b: &Ty) -> Result<Option<Ty>, AllocError>
-    ensures { IfOk result (λ found. found ≡ meet a.now b.now) }
+    ensures { IfOk result (λ found. found ≡ meet_of a.now b.now) }
 {
     match (&a.kind, &b.kind) {
         (TyKind::Dyn, _) => Ok(Some(copy_type(alloc, b)?)),
@@ -57,7 +57,7 @@ fn met(alloc: Global, a: &Ty, b: &Ty) -> Result<Option<Ty>, AllocError>
 /// The meet of two parts; where one of them is `Dyn` it is the other itself.
 #[cycle(meets)]
 fn met_part(alloc: Global, a: &Shared<Ty>, b: &Shared<Ty>) -> Result<Option<Shared<Ty>>, AllocError>
-    ensures { IfOk result (λ found. found ≡ meet a.now b.now) }
+    ensures { IfOk result (λ found. found ≡ meet_of a.now b.now) }
 {
     match (&a.get().kind, &b.get().kind) {
         (TyKind::Dyn, _) => Ok(Some(b.share()?)),

@@ -13,13 +13,13 @@ use Rattle.mono_syntax.specs.declared.tree.Script.{Script}
 use Rattle.script_rules.specs.Definitions.{functions_of, statements_of}
 use Rattle.script_rules.specs.Scoping.{class_list, ClassesStand, FunctionsStand, BlocksStand, IsBlockScope, IsScope}
 use Rattle.class_types.specs.declared.table.ClassTypes.{ClassTypes}
-use Rattle.class_types.specs.FirstFault.{IsFirst, IsFaultless}
+use Rattle.script_rules.specs.FirstFault.{IsFirst, IsFaultless}
 use Rattle.class_types.specs.Holds.{Extends}
-use Rattle.class_types.specs.Recursion.{RecursionFault}
-use Rattle.class_types.specs.SizeFaults.{SizeFault}
+use Rattle.script_rules.specs.Recursion.{RecursionFault}
+use Rattle.script_rules.specs.SizeFaults.{SizeFault}
 use Rattle.name_scope.specs.declared.blocks.TypedFunctions.{TypedFunctions}
-use Rattle.name_scope.specs.NameFaults.{NameFault}
-use Rattle.name_scope.specs.ScopeFaults.{ScopeFault, IsRight, IsScopeRefusal, misnamed, oversized, IsFault, Refuses, IsAnswer}
+use Rattle.script_rules.specs.NameFaults.{NameFault}
+use Rattle.script_rules.specs.ScopeFaults.{ScopeFault, IsRight, IsScopeRefusal, misnamed, oversized, IsFault, Refuses, IsAnswer}
 use Rattle.name_scope.specs.Typing.{FunctionBlocksStand, FunctionsTyped}
 use Rattle.name_scope.proofs.FaultOrder.{one_first}
 use Rattle.name_scope.proofs.Growth.{functions_grow, blocks_grow, blocks_main}

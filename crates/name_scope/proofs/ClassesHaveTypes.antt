@@ -19,7 +19,7 @@ use Rattle.mono_syntax.specs.Ty.{Ty, dyn, int, bool, str, nil, fun, obj, Tys, no
 use Rattle.script_rules.specs.Definitions.{class_named}
 use Rattle.script_rules.specs.Writes.{Writes, WriteAll, Declares, writes_dyn, writes_int, writes_bool, writes_str, writes_nil, writes_class, writes_fun, write_none, write_more, declares_none, declares_more, in_order}
 use Rattle.class_types.specs.Known.{HaveTypes}
-use Rattle.class_types.specs.Recursion.{names_in, names_in_all, field_names, Leads, here, through, RecursionFault}
+use Rattle.script_rules.specs.Recursion.{names_in, names_in_all, field_names, Leads, here, through, RecursionFault}
 use Rattle.name_scope.proofs.FaultOrder.{In, in_left, in_right, in_Contains}
 
 -- the class of a name has it, and fields with types

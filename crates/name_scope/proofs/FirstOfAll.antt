@@ -4,10 +4,10 @@ use Rattle.std.specs.Prelude.{flat_map}
 use Rattle.std.proofs.lemmas.List.{take_more}
 use Rattle.mono_syntax.specs.declared.refusal.Refusal.{Refusal}
 use Rattle.mono_syntax.specs.declared.tree.Item.{Item}
-use Rattle.class_types.specs.FirstFault.{sooner}
-use Rattle.name_scope.specs.declared.occurrence.Occurrence.{Occurrence}
+use Rattle.script_rules.specs.FirstFault.{sooner}
+use Rattle.script_rules.specs.declared.occurrence.Occurrence.{Occurrence}
 use Rattle.name_scope.specs.declared.roles.Roles.{Roles}
-use Rattle.name_scope.specs.Occurrences.{body_of}
+use Rattle.script_rules.specs.Occurrences.{body_of}
 use Rattle.name_scope.specs.NameRoles.{roles_of}
 use Rattle.name_scope.specs.FoundFaults.{first_of_all, faults_at, faults_behind}
 

@@ -6,12 +6,12 @@ use Rattle.std.proofs.lemmas.Bool.{or_cases}
 use Rattle.mono_list.proofs.Cases.{split, split_option, some_is}
 use Rattle.mono_tree.proofs.MeetMade.{named, name_read}
 use Rattle.mono_syntax.specs.declared.leaf.Place.{Place}
-use Rattle.name_scope.specs.declared.occurrence.Occurrence.{Occurrence}
-use Rattle.name_scope.specs.declared.occurrence.Role.{Role}
-use Rattle.name_scope.specs.declared.occurrence.Role.TheVariants as role
+use Rattle.script_rules.specs.declared.occurrence.Occurrence.{Occurrence}
+use Rattle.script_rules.specs.declared.occurrence.Role.{Role}
+use Rattle.script_rules.specs.declared.occurrence.Role.TheVariants as role
 use Rattle.name_scope.specs.declared.roles.Roles.{Roles}
 use Rattle.name_scope.specs.NameRoles.{no_roles, alone, together, roles_of}
-use Rattle.name_scope.specs.Rules.{gives_name, is_field, is_start, is_start_end, is_class, is_definition, Stands, FirstDefined}
+use Rattle.script_rules.specs.NameRules.{gives_name, is_field, is_start, is_start_end, is_class, is_definition, Stands, FirstDefined}
 use Rattle.name_scope.proofs.FaultOrder.{In, in_Contains, Contains_in}
 
 or_true : (a : Bool) → (a || true) ≡ true

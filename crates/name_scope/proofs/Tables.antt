@@ -13,7 +13,7 @@ use Rattle.std.proofs.lemmas.Map.Text.{is_eq-slice_cmp}
 use Rattle.mono_list.proofs.Cases.{split}
 use Rattle.mono_tree.proofs.MeetMade.{name_read}
 use Rattle.mono_syntax.specs.declared.leaf.Place.{Place}
-use Rattle.name_scope.specs.declared.occurrence.Occurrence.{Occurrence}
+use Rattle.script_rules.specs.declared.occurrence.Occurrence.{Occurrence}
 use Rattle.name_scope.specs.declared.roles.Roles.{Roles}
 use Rattle.name_scope.specs.NameRoles.{no_roles, alone, together, roles_of}
 use Rattle.name_scope.specs.Table.{roles_in}

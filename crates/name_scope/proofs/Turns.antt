@@ -5,7 +5,7 @@ use Rattle.mono_syntax.specs.declared.tree.Item.{Item}
 use Rattle.mono_syntax.specs.declared.tree.Item.TheVariants as item
 use Rattle.mono_syntax.specs.StmtView.{block}
 use Rattle.script_rules.specs.Definitions.{statements_of}
-use Rattle.name_scope.specs.Occurrences.{in_block}
+use Rattle.script_rules.specs.Occurrences.{in_block}
 
 -- an item and those behind it
 pub item_first : (i : Item) (is : List Item) → in_block (block (statements_of (i ∷ is))) ≡ in_block (block (statements_of (i ∷ []))) ++ in_block (block (statements_of is))

@@ -11,7 +11,7 @@ use Rattle.script_rules.specs.Scoping.{class_list, StandsAt, NamesStand}
 use Rattle.script_rules.specs.Writes.{WritesAny}
 use Rattle.class_types.specs.declared.table.ClassTypes.{ClassTypes}
 use Rattle.class_types.specs.Holds.{Extends}
-use Rattle.name_scope.specs.declared.occurrence.Role.TheVariants as role
+use Rattle.script_rules.specs.declared.occurrence.Role.TheVariants as role
 use Rattle.name_scope.specs.declared.roles.Roles.{Roles}
 use Rattle.name_scope.specs.declared.typing.TypedNames.{TypedNames}
 use Rattle.name_scope.specs.declared.bound.Target as rust

@@ -24,16 +24,16 @@ use Rattle.script_rules.specs.BlockNames.{Target, of_param, targets, block_targe
 use Rattle.script_rules.specs.Definitions.{classes_of, functions_of, class_named}
 use Rattle.script_rules.specs.Scoping.{class_list, function_list, main_block}
 use Rattle.script_rules.specs.Writes.{WritesAny, ParamTypes}
-use Rattle.class_types.specs.FirstFault.{IsFaultless}
+use Rattle.script_rules.specs.FirstFault.{IsFaultless}
 use Rattle.class_types.specs.Known.{HaveTypes}
-use Rattle.class_types.specs.Recursion.{names_in, names_in_all, field_names, RecursionFault}
-use Rattle.name_scope.specs.declared.occurrence.Occurrence.{Occurrence}
-use Rattle.name_scope.specs.declared.occurrence.Role.TheVariants as role
+use Rattle.script_rules.specs.Recursion.{names_in, names_in_all, field_names, RecursionFault}
+use Rattle.script_rules.specs.declared.occurrence.Occurrence.{Occurrence}
+use Rattle.script_rules.specs.declared.occurrence.Role.TheVariants as role
 use Rattle.name_scope.specs.declared.roles.Roles.{Roles}
-use Rattle.name_scope.specs.Occurrences.{at, in_ann, in_anns, in_any_ann, in_expr, in_target, in_stmt, in_block, in_branches, in_else, in_param, in_function, in_field, in_class, defined_by, definitions, in_main, body_of, bodies}
+use Rattle.script_rules.specs.Occurrences.{at, in_ann, in_anns, in_any_ann, in_expr, in_target, in_stmt, in_block, in_branches, in_else, in_param, in_function, in_field, in_class, defined_by, definitions, in_main, body_of, bodies}
 use Rattle.name_scope.specs.NameRoles.{alone, together, roles_of, is_twice}
-use Rattle.name_scope.specs.NameFaults.{NameFault}
-use Rattle.name_scope.specs.Rules.{StandsBehind}
+use Rattle.script_rules.specs.NameFaults.{NameFault}
+use Rattle.script_rules.specs.NameRules.{StandsBehind}
 use Rattle.name_scope.specs.Typing.{EachWrites, IsTypable, AreTypable, HasTypes}
 use Rattle.name_scope.proofs.BoundTurns.{targets_of_block}
 use Rattle.name_scope.proofs.ClassesHaveTypes.{HasFields, ann_writes, AreKnown, class_has_fields, all_have_types}

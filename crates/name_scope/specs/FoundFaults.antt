@@ -5,12 +5,12 @@ use Rattle.mono_syntax.specs.declared.refusal.Reason.{Reason}
 use Rattle.mono_syntax.specs.declared.refusal.Reason.TheVariants.{UnknownName, Twice, Misused}
 use Rattle.mono_syntax.specs.declared.refusal.Refusal.{Refusal}
 use Rattle.mono_syntax.specs.declared.tree.Script.{Script}
-use Rattle.class_types.specs.FirstFault.{sooner}
-use Rattle.name_scope.specs.declared.occurrence.Occurrence.{Occurrence}
-use Rattle.name_scope.specs.declared.occurrence.Role.{Role}
+use Rattle.script_rules.specs.FirstFault.{sooner}
+use Rattle.script_rules.specs.declared.occurrence.Occurrence.{Occurrence}
+use Rattle.script_rules.specs.declared.occurrence.Role.{Role}
 use Rattle.name_scope.specs.declared.roles.Roles.{Roles}
-use Rattle.name_scope.specs.Occurrences.{definitions, bodies}
-use Rattle.name_scope.specs.Rules.{later}
+use Rattle.script_rules.specs.Occurrences.{definitions, bodies}
+use Rattle.script_rules.specs.NameRules.{later}
 use Rattle.name_scope.specs.NameRoles.{roles_of, is_unknown, is_twice, is_misused, defined_at}
 
 -- a fault where the test holds

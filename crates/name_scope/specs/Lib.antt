@@ -1,8 +1,4 @@
-pub mod Occurrences
-pub mod Rules
 pub mod NameRoles
-pub mod NameFaults
-pub mod ScopeFaults
 pub mod FoundFaults
 pub mod Table
 pub mod Bound

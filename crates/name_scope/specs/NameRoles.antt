@@ -2,9 +2,9 @@
 use Rattle.std.specs.Prelude.{ℕ, List, [], ◌∷◌, Bool, true, false, ◌||◌, not, Option, Some, None, is_some, bytes_eq, if◌then◌else◌}
 use Rattle.std.specs.Option.{option_or}
 use Rattle.mono_syntax.specs.declared.leaf.Place.{Place}
-use Rattle.name_scope.specs.declared.occurrence.Occurrence.{Occurrence}
-use Rattle.name_scope.specs.declared.occurrence.Role.{Role}
-use Rattle.name_scope.specs.declared.occurrence.Role.TheVariants as role
+use Rattle.script_rules.specs.declared.occurrence.Occurrence.{Occurrence}
+use Rattle.script_rules.specs.declared.occurrence.Role.{Role}
+use Rattle.script_rules.specs.declared.occurrence.Role.TheVariants as role
 use Rattle.name_scope.specs.declared.roles.Roles.{Roles}
 
 -- a name that stands nowhere

@@ -1,10 +1,10 @@
 ghost use Rattle.std.specs.Prelude.{◌≡◌, [], ◌∷◌, ◌++◌, flat_map, OnOk, IfOk};
 ghost use Rattle.mono_syntax.specs.StmtView.{block};
 ghost use Rattle.script_rules.specs.Definitions.{statements_of};
-ghost use Rattle.name_scope.specs.Occurrences.{in_param, in_function, in_field, in_class, defined_by, in_block};
+ghost use Rattle.script_rules.specs.Occurrences.{in_param, in_function, in_field, in_class, defined_by, in_block};
 
 use crate::collect::{put_ann, put_any_ann, put_word};
-use crate::occurrence::{Occurrence, Role};
+use script_rules::{Occurrence, Role};
 use crate::statements::{put_block, put_stmt};
 use mono_syntax::{ClassDef, FieldDef, FuncDef, Item, Param};
 use sqlite_items::Items;

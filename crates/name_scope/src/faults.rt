@@ -1,14 +1,14 @@
 ghost use Rattle.std.specs.Prelude.{◌≡◌, [], ◌∷◌, ◌++◌, flat_map, IfOk, MatchOption};
 ghost use Rattle.mono_syntax.specs.StmtView.{block};
 ghost use Rattle.script_rules.specs.Definitions.{statements_of};
-ghost use Rattle.class_types.specs.FirstFault.{IsFirst, IsFaultless};
-ghost use Rattle.name_scope.specs.Occurrences.{body_of, in_block};
+ghost use Rattle.script_rules.specs.FirstFault.{IsFirst, IsFaultless};
+ghost use Rattle.script_rules.specs.Occurrences.{body_of, in_block};
 ghost use Rattle.name_scope.specs.FoundFaults.{fault_if, fault_of_both, faults_at, body_faults, first_of_all};
-ghost use Rattle.name_scope.specs.NameFaults.{NameFault};
+ghost use Rattle.script_rules.specs.NameFaults.{NameFault};
 ghost use Rattle.name_scope.specs.Table.{roles_in};
 
 use crate::bodies::{class_names, defined_names, function_names, main_names};
-use crate::occurrence::Occurrence;
+use script_rules::Occurrence;
 use crate::roles::Roles;
 use crate::rules::{defined_at, is_misused, is_twice, is_unknown, later};
 use crate::table::{NameTable, table_of};

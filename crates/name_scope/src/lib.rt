@@ -7,7 +7,6 @@ mod bodies;
 mod bound;
 mod collect;
 mod faults;
-mod occurrence;
 mod roles;
 mod rules;
 mod scoping;
@@ -16,7 +15,6 @@ mod table;
 mod typing;
 
 pub use faults::name_refusal;
-pub use occurrence::{Occurrence, Role};
 pub use roles::Roles;
 pub use scoping::scope;
 

@@ -1,7 +1,7 @@
 ghost use Rattle.std.specs.Prelude.{◌≡◌};
 ghost use Rattle.name_scope.specs.NameRoles.{no_roles, alone, together};
 
-use crate::occurrence::Role;
+use script_rules::Role;
 use mono_syntax::Place;
 
 /// What a name is in a list of occurrences.

@@ -1,8 +1,8 @@
 ghost use Rattle.std.specs.Prelude.{◌≡◌};
-ghost use Rattle.name_scope.specs.Rules.{is_earlier, later};
+ghost use Rattle.script_rules.specs.NameRules.{is_earlier, later};
 ghost use Rattle.name_scope.specs.NameRoles.{is_unknown, is_twice, is_misused, defined_at};
 
-use crate::occurrence::Role;
+use script_rules::Role;
 use crate::roles::Roles;
 use mono_syntax::Place;
 

@@ -1,10 +1,10 @@
 ghost use Rattle.std.specs.Prelude.{◌≡◌, [], ◌∷◌, ◌++◌, flat_map, OnOk, IfOk};
 ghost use Rattle.mono_syntax.specs.ExprView.{exprs};
 ghost use Rattle.mono_syntax.specs.StmtView.{block, branches, else_block};
-ghost use Rattle.name_scope.specs.Occurrences.{at, in_expr, in_exprs, in_target, in_stmt, in_block, in_branches, in_else};
+ghost use Rattle.script_rules.specs.Occurrences.{at, in_expr, in_exprs, in_target, in_stmt, in_block, in_branches, in_else};
 
 use crate::collect::{put_ann, put_any_expr, put_expr, put_exprs, put_word};
-use crate::occurrence::{Occurrence, Role};
+use script_rules::{Occurrence, Role};
 use mono_syntax::{Ann, Branch, Expr, Stmt, StmtKind, Word};
 use sqlite_items::Items;
 use std::alloc::AllocError;

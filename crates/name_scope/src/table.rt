@@ -2,7 +2,7 @@ ghost use Rattle.std.specs.Prelude.{◌≡◌, ℕ, List, bytes_eq, if◌then◌
 ghost use Rattle.name_scope.specs.NameRoles.{no_roles, alone, together, roles_of};
 ghost use Rattle.name_scope.specs.Table.{roles_in};
 
-use crate::occurrence::Occurrence;
+use script_rules::Occurrence;
 use crate::roles::{Roles, alone, no_roles, together};
 use mono_syntax::Name;
 use std::alloc::{AllocError, Global};

@@ -10,7 +10,7 @@ ghost use Rattle.name_scope.specs.Bound.{target_of};
 ghost use Rattle.name_scope.specs.Typing.{EachWrites, NamesTyped};
 
 use crate::bound::Target;
-use crate::occurrence::{Occurrence, Role};
+use script_rules::{Occurrence, Role};
 use crate::table::NameTable;
 use class_types::{ClassTypes, written_any};
 use mono_syntax::{Ann, TyAt, TypedName};

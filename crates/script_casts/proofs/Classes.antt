@@ -6,7 +6,7 @@ use Rattle.mono_syntax.specs.declared.cast.NamedType.{NamedType}
 use Rattle.mono_syntax.specs.declared.tree.ClassDef.{ClassDef}
 use Rattle.mono_syntax.specs.Ty.{Ty, obj}
 use Rattle.mono_syntax.specs.TyView.{fields}
-use Rattle.mono_tree.specs.WellTyped.{type_of_name}
+use Rattle.mono_tree.specs.TypedPrograms.{type_of_name}
 use Rattle.script_rules.specs.Definitions.{class_named}
 use Rattle.script_rules.specs.Writes.{in_order, Declares, IsClassType}
 use Rattle.typing_rules.specs.Members.{Names, Numbered, class_from}

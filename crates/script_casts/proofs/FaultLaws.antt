@@ -17,7 +17,7 @@ use Rattle.mono_syntax.specs.CastExpr as cast
 use Rattle.mono_syntax.specs.CastExprView.{cast_exprs}
 use Rattle.mono_syntax.specs.Ty.{Ty, dyn, int, bool, str, nil, fun, obj}
 use Rattle.mono_syntax.specs.TyView.{fields}
-use Rattle.mono_tree.specs.WellTyped.{type_of_name}
+use Rattle.mono_tree.specs.TypedPrograms.{type_of_name}
 use Rattle.typing_rules.specs.Elaborates.{Elaborates}
 use Rattle.typing_rules.specs.Members.{Names, Numbered, class_at, field_type, member_type, field_count, expr_count}
 use Rattle.typing_rules.specs.Operators.{Sort, arithmetic, comparison, equality, sort_of}

@@ -12,7 +12,7 @@ use Rattle.mono_syntax.specs.Stmt.{Stmt, pass, assign, print, write, plain, if_a
 use Rattle.mono_syntax.specs.StmtView.{block}
 use Rattle.mono_syntax.specs.Ty.{Ty, Fields}
 use Rattle.mono_syntax.specs.TyView.{fields}
-use Rattle.mono_tree.specs.WellTyped.{type_of_name}
+use Rattle.mono_tree.specs.TypedPrograms.{type_of_name}
 use Rattle.script_rules.specs.Definitions.{statements_of}
 use Rattle.script_rules.specs.Writes.{Writes, Declares}
 use Rattle.typing_rules.specs.BuiltForms.{IsBuilt, AreBuiltExprs, HasBranch, IsBuiltLine, AreBuiltLines, AreBuiltBranches, IsBuiltElse, AreBuilt}

@@ -23,7 +23,7 @@ use Rattle.mono_syntax.specs.Ty.{Ty, dyn, int, bool, str, nil, fun, obj, Fields}
 use Rattle.mono_syntax.specs.TyView.{fields}
 use Rattle.mono_tree.specs.Meet.{IsMeet, AreApart}
 use Rattle.mono_tree.specs.Precise.{below_dyn}
-use Rattle.mono_tree.specs.WellTyped.{type_of_name}
+use Rattle.mono_tree.specs.TypedPrograms.{type_of_name}
 use Rattle.mono_tree.proofs.Order.{reflexive}
 use Rattle.script_rules.specs.Writes.{in_order, Declares}
 use Rattle.typing_rules.specs.Elaborates.{Elaborates, of_number, of_text, of_truth, of_nil, of_name, of_dyn_sum, of_arithmetic, of_comparison, of_equality, of_neg, of_not, of_both, of_either, of_dyn_read, of_read, of_cast, of_new, ElaboratesAt, used_at, ElaboratesPair, used_pair, ElaborateAll, of_none, of_more}
@@ -279,9 +279,9 @@ module _ (names : Names) (ks : Known) (known : IsKnown names ks) where
   new_again : (p : Place) (w : Word) (es : Exprs) (b : Table) (ts : List Ty) (n : Numbered) (fs : Fields) (t : Ty) → InsertsAll [] es ts b → IsClass w n fs → AllMeet ts fs → t ≡ obj (in_order fs)
       → Inserts (New p w es) t b
   new_again p w es b ts n fs t h k m e =
-      let meet = subst (λ (z : List Ty). AllMeet z (fields k.class.fields)) (sym (types_of es ts b h)) (subst (λ (z : Fields). AllMeet ts z) (sym k.fields) m) in
-      let u = all_used_again (record { exprs = []; table = h.parts.table }) h.parts.parts k.class.fields meet in
-      let c = even_again p w.place k.class h.parts (meet_count h.parts.parts k.class.fields meet) u in
+      let meets = subst (λ (z : List Ty). AllMeet z (fields k.class.fields)) (sym (types_of es ts b h)) (subst (λ (z : Fields). AllMeet ts z) (sym k.fields) m) in
+      let u = all_used_again (record { exprs = []; table = h.parts.table }) h.parts.parts k.class.fields meets in
+      let c = even_again p w.place k.class h.parts (meet_count h.parts.parts k.class.fields meets) u in
       record { cast = c.0; is = new_at p w es b ts n fs h k _ c.1; type = c.2 ∙ k.type ∙ sym e }
 
   -- ---- expressions

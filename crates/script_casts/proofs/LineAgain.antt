@@ -15,7 +15,7 @@ use Rattle.mono_syntax.specs.CastStmt.{CastStmt, CastBlock, CastBranches, CastEl
 use Rattle.mono_syntax.specs.Ty.{Ty, dyn, int, bool, str, nil, fun, obj, Fields}
 use Rattle.mono_tree.specs.Meet.{AreApart}
 use Rattle.mono_tree.specs.Precise.{Precise}
-use Rattle.mono_tree.specs.WellTyped.{type_of_name}
+use Rattle.mono_tree.specs.TypedPrograms.{type_of_name}
 use Rattle.typing_rules.specs.ElaboratesLines.{ElaboratesLine, passes, stands_alone, assigns, prints, writes_dyn, writes_static, writes_field, branches, loops, ElaboratesGuarded, guards, ElaboratesBranches, no_branch, next_branch, ElaboratesElse, no_last, at_last, ElaboratesBlock, ends, goes_on}
 use Rattle.typing_rules.specs.Members.{Names, field_type, member_type}
 use Rattle.typing_rules.specs.SourcePlaces.{place_of}

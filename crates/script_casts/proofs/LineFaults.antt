@@ -12,7 +12,7 @@ use Rattle.mono_syntax.specs.Stmt.{Stmt, pass, assign, print, write, plain, if_a
 use Rattle.mono_syntax.specs.CastExpr.{CastExpr}
 use Rattle.mono_syntax.specs.Ty.{Ty, dyn, int, bool, str, nil, fun, obj}
 use Rattle.mono_tree.specs.Meet.{AreApart}
-use Rattle.mono_tree.specs.WellTyped.{type_of_name}
+use Rattle.mono_tree.specs.TypedPrograms.{type_of_name}
 use Rattle.typing_rules.specs.Members.{Names, field_type, member_type}
 use Rattle.typing_rules.specs.SourcePlaces.{place_of}
 use Rattle.typing_rules.specs.TypingFaults.{at, in_used}

@@ -21,7 +21,7 @@ use Rattle.mono_syntax.specs.CastStmtView.{cast_block, cast_branches, cast_else_
 use Rattle.mono_syntax.specs.StmtView.{block}
 use Rattle.mono_syntax.specs.Ty.{Ty, dyn, int, bool, str, nil, fun, obj, Fields}
 use Rattle.mono_tree.specs.Static.{is_static}
-use Rattle.mono_tree.specs.WellTyped.{type_of_name}
+use Rattle.mono_tree.specs.TypedPrograms.{type_of_name}
 use Rattle.script_rules.specs.Definitions.{statements_of}
 use Rattle.typing_rules.specs.Elaborates.{IsSiteFor, Uses, Elaborates, ElaborateAll}
 use Rattle.typing_rules.specs.ElaboratesLines.{ElaboratesLine, passes, stands_alone, assigns, prints, writes_dyn, writes_static, writes_field, branches, loops, ElaboratesGuarded, guards, ElaboratesBranches, no_branch, next_branch, ElaboratesElse, no_last, at_last, ElaboratesBlock, ends, goes_on}

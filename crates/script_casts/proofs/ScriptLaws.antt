@@ -13,7 +13,7 @@ use Rattle.mono_syntax.specs.CastStmt.{CastStmt}
 use Rattle.mono_syntax.specs.CastStmtView.{cast_block}
 use Rattle.mono_syntax.specs.StmtView.{block}
 use Rattle.mono_syntax.specs.Ty.{Ty, dyn}
-use Rattle.mono_tree.specs.WellTyped.{IsWellTypedProgram}
+use Rattle.mono_tree.specs.TypedPrograms.{IsTypedProgram}
 use Rattle.script_rules.specs.BlockNames.{Target, firsts, all_targets}
 use Rattle.script_rules.specs.Scoping.{IsScope, class_list, main_block}
 use Rattle.typing_rules.specs.BuiltForms.{AreBuilt, not_built}
@@ -192,6 +192,6 @@ answer_refuses d (Ok p) s g r h = ok_err (sym g ∙ refusal_made d s r h)
 answer_refuses d (Err (Refused q)) s g r h = inl (ap (λ (z : Refusal). Refused z) (err_is (sym g ∙ refusal_made d s r h)))
 answer_refuses d (Err Memory) s g r h = inr refl
 
-pub answer_typed : (d : Scoped) (r : Result CastScript LoadFault) → IsScope d.script d → HaveClassTypes d → Gives r (made d) → IfOk r (λ p. IsWellTypedProgram p)
+pub answer_typed : (d : Scoped) (r : Result CastScript LoadFault) → IsScope d.script d → HaveClassTypes d → Gives r (made d) → IfOk r (λ p. IsTypedProgram p)
 answer_typed d (Ok p) s t g = well_typed d p (made_casts d s p g) t
 answer_typed d (Err f) s t g = tt

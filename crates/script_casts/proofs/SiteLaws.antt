@@ -12,7 +12,7 @@ use Rattle.mono_syntax.specs.declared.refusal.Refusal.{Refusal}
 use Rattle.mono_syntax.specs.CastExpr.{CastExpr}
 use Rattle.mono_syntax.specs.CastExpr as cast
 use Rattle.mono_syntax.specs.Ty.{Ty, dyn}
-use Rattle.mono_tree.specs.Meet.{IsMeet, AreApart, meet}
+use Rattle.mono_tree.specs.Meet.{IsMeet, AreApart, meet_of}
 use Rattle.mono_tree.specs.Precise.{Precise}
 use Rattle.mono_tree.specs.Precision.{precise}
 use Rattle.mono_tree.proofs.MeetMade.{meet_is, none_apart}
@@ -31,16 +31,16 @@ use Rattle.script_casts.proofs.TypeListLaws.{Keeps, Grows, stays, grows_on, is_p
 -- ---- meets
 
 pub consistent_meet : (a b : Ty) → consistent a b ≡ true → (m : Ty) × IsMeet m a b
-consistent_meet a b = go (meet a b) refl
+consistent_meet a b = go (meet_of a b) refl
   where
-    go : (o : Option Ty) → meet a b ≡ o → consistent a b ≡ true → (m : Ty) × IsMeet m a b
+    go : (o : Option Ty) → meet_of a b ≡ o → consistent a b ≡ true → (m : Ty) × IsMeet m a b
     go (Some m) e h = (m, meet_is a b m e)
     go None e h = absurd cc
 
 pub inconsistent_apart : (a b : Ty) → consistent a b ≡ false → AreApart a b
-inconsistent_apart a b = go (meet a b) refl
+inconsistent_apart a b = go (meet_of a b) refl
   where
-    go : (o : Option Ty) → meet a b ≡ o → consistent a b ≡ false → AreApart a b
+    go : (o : Option Ty) → meet_of a b ≡ o → consistent a b ≡ false → AreApart a b
     go (Some m) e h = absurd cc
     go None e h = none_apart a b e
 

@@ -17,7 +17,7 @@ use Rattle.mono_syntax.specs.CastExpr as cast
 use Rattle.mono_syntax.specs.CastExprView.{cast_exprs}
 use Rattle.mono_syntax.specs.Ty.{Ty, dyn, int, bool, str, nil, obj}
 use Rattle.mono_tree.specs.Precision.{precise}
-use Rattle.mono_tree.specs.WellTyped.{type_of_name}
+use Rattle.mono_tree.specs.TypedPrograms.{type_of_name}
 use Rattle.typing_rules.specs.BuiltForms.{not_built}
 use Rattle.typing_rules.specs.Members.{field_type}
 use Rattle.typing_rules.specs.Operators.{sort_of}

@@ -19,7 +19,7 @@ use Rattle.mono_syntax.specs.CastStmt as cast_stmt
 use Rattle.mono_syntax.specs.CastStmtView.{cast_block, cast_branches, cast_else_block}
 use Rattle.mono_syntax.specs.Ty.{Ty, dyn, bool, obj}
 use Rattle.mono_tree.specs.Static.{is_static}
-use Rattle.mono_tree.specs.WellTyped.{type_of_name}
+use Rattle.mono_tree.specs.TypedPrograms.{type_of_name}
 use Rattle.typing_rules.specs.BuiltForms.{not_built}
 use Rattle.typing_rules.specs.Members.{field_type}
 use Rattle.typing_rules.specs.TypingFaults.{at}

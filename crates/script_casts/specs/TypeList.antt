@@ -2,7 +2,7 @@
 use Rattle.std.specs.Prelude.{ℕ, ◌+◌, List, [], ◌∷◌, ◌++◌, length, Bool, true, false, ◌&&◌, Option, Some, None, is_some, if◌then◌else◌}
 use Rattle.mono_syntax.specs.Ty.{Ty, dyn}
 use Rattle.mono_tree.specs.Precision.{precise}
-use Rattle.mono_tree.specs.Meet.{meet}
+use Rattle.mono_tree.specs.Meet.{meet_of}
 use Rattle.script_casts.specs.declared.types.Placed.{Placed}
 
 abbrev pub is_dyn : Ty → Bool
@@ -15,7 +15,7 @@ same a b = precise a b && precise b a
 
 -- whether the two have a meet
 abbrev pub consistent : Ty → Ty → Bool
-consistent a b = is_some (meet a b)
+consistent a b = is_some (meet_of a b)
 
 -- the position of a type, where the list is counted from n on
 abbrev pub position_from : ℕ → List Ty → Ty → Option ℕ

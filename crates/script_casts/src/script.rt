@@ -2,7 +2,7 @@ ghost use Rattle.std.specs.Prelude.{◌≡◌, IfOk, IfErr, IsOkUnless, Ok, map}
 ghost use Rattle.mono_syntax.specs.declared.cast.CastScript.{CastScript};
 ghost use Rattle.mono_syntax.specs.declared.refusal.Refusal.{Refusal};
 ghost use Rattle.mono_syntax.specs.Ty.{dyn};
-ghost use Rattle.mono_tree.specs.WellTyped.{IsWellTypedProgram};
+ghost use Rattle.mono_tree.specs.TypedPrograms.{IsTypedProgram};
 ghost use Rattle.script_rules.specs.Scoping.{IsScope};
 ghost use Rattle.typing_rules.specs.HasCasts.{HasCasts, IsRefusal, IsFault, HaveClassTypes};
 ghost use Rattle.script_casts.specs.Lines.{class_of, finished, made_with, made_at, made};
@@ -145,7 +145,7 @@ pub fn with_casts(alloc: Global, scoped: Scoped) -> Result<CastScript, LoadFault
     ensures accepts { (p : CastScript) → HasCasts scoped p → IsOkUnless result LoadFault.Memory }
     ensures refuses { (r : Refusal) → IsRefusal scoped r → Refuses result r }
 
-    ensures typed { IfOk result IsWellTypedProgram }
+    ensures typed { IfOk result IsTypedProgram }
 {
     made(alloc, scoped)
 }

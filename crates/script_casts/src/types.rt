@@ -1,6 +1,6 @@
 ghost use Rattle.std.specs.Prelude.{◌≡◌, IfOk, Ok};
 ghost use Rattle.mono_syntax.specs.TyView.{ty_of};
-ghost use Rattle.mono_tree.specs.Meet.{meet};
+ghost use Rattle.mono_tree.specs.Meet.{meet_of};
 ghost use Rattle.mono_tree.specs.Precision.{precise};
 ghost use Rattle.mono_tree.specs.Static.{is_static};
 ghost use Rattle.script_casts.specs.Refusals.{Gives};
@@ -55,7 +55,7 @@ fn is_same(a: &Ty, b: &Ty) -> bool
 }
 
 fn met(alloc: Global, a: &Ty, b: &Ty) -> Result<Option<Ty>, AllocError>
-    ensures { IfOk result (λ m. m ≡ meet a.now b.now) }
+    ensures { IfOk result (λ m. m ≡ meet_of a.now b.now) }
 {
     mono_tree::meet(alloc, a, b)
 }

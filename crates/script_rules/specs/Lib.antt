@@ -2,3 +2,12 @@ pub mod Definitions
 pub mod Writes
 pub mod BlockNames
 pub mod Scoping
+pub mod FirstFault
+pub mod Recursion
+pub mod SourceParts
+pub mod WellFormed
+pub mod SizeFaults
+pub mod Occurrences
+pub mod NameRules
+pub mod NameFaults
+pub mod ScopeFaults

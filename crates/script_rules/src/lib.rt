@@ -1,3 +1,8 @@
-//! What the names of a script mean: its classes and functions, the types that annotations write, and the names of each
-//! block with their types. Definitions alone: the phases that find names and types cite them.
+//! What the names of a script mean, and which script is refused for them: its classes and functions, the types that
+//! annotations write, the names of each block with their types, and the faults of names and sizes. Definitions, and the
+//! type of a name where it stands: the phases that find names and types cite them.
 #![tactic(auto)]
+
+mod occurrence;
+
+pub use occurrence::{Occurrence, Role};

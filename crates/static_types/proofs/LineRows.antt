@@ -6,14 +6,14 @@ use Rattle.mono_syntax.specs.Expr.{Expr}
 use Rattle.mono_syntax.specs.Stmt as stmt
 use Rattle.mono_syntax.specs.Stmt.{Stmt, Block, no_stmts, more_stmts, Branches, no_branches, more_branches, Else, no_else, otherwise}
 use Rattle.mono_syntax.specs.Ty.{Ty, bool}
-use Rattle.mono_tree.specs.Meet.{AreApart}
+use Rattle.mono_tree.specs.Meet.{AreApart, Consistent}
 use Rattle.static_types.specs.Faults.{Fault, PartFault, UseFault}
 use Rattle.static_types.specs.Lines.{line_parts, LineRule, TypedLine, line, branches, loops, TypedGuarded, guards, TypedBranches, no_branch, next_branch, TypedElse, no_last, at_last, TypedBlock, ends, goes_on}
 use Rattle.static_types.specs.LineFaults.{LineRuleFault, LineFault, in_part, no_rule, at_use, in_branches, in_else, in_loop, GuardedFault, in_condition, at_condition, in_guarded, BranchFault, in_branch, in_later_branch, BlockFault, in_this, in_rest}
 use Rattle.static_types.specs.Names.{Names}
 use Rattle.static_types.specs.Rules.{at}
 use Rattle.static_types.specs.SourcePlaces.{place_of}
-use Rattle.static_types.specs.Types.{Consistent, AllConsistent, Types, TypeAll}
+use Rattle.static_types.specs.Types.{AllConsistent, Types, TypeAll}
 use Rattle.static_types.proofs.TypeLaws.{part_row}
 
 -- ---- typing

@@ -8,7 +8,7 @@ use Rattle.mono_syntax.specs.Expr.{Expr, Exprs}
 use Rattle.mono_syntax.specs.Stmt as stmt
 use Rattle.mono_syntax.specs.Stmt.{Stmt}
 use Rattle.mono_syntax.specs.Ty.{Ty}
-use Rattle.mono_tree.specs.WellTyped.{type_of_name}
+use Rattle.mono_tree.specs.TypedPrograms.{type_of_name}
 use Rattle.static_types.specs.Lines.{AssignRule, WriteRule, ReturnRule, StartRule, LineRule}
 use Rattle.static_types.specs.LineFaults.{StartFault, LineRuleFault}
 use Rattle.static_types.specs.Names.{Names, with_thread}

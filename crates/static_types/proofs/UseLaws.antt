@@ -4,11 +4,11 @@ use Rattle.mono_syntax.specs.declared.refusal.Reason.TheVariants.{Inconsistent}
 use Rattle.mono_syntax.specs.declared.refusal.Refusal.{Refusal}
 use Rattle.mono_syntax.specs.Expr.{Expr}
 use Rattle.mono_syntax.specs.Ty.{Ty}
-use Rattle.mono_tree.specs.Meet.{AreApart}
+use Rattle.mono_tree.specs.Meet.{AreApart, Consistent}
 use Rattle.static_types.specs.Faults.{UseFault, here, later}
 use Rattle.static_types.specs.Rules.{at}
 use Rattle.static_types.specs.SourcePlaces.{place_of}
-use Rattle.static_types.specs.Types.{Consistent, AllConsistent}
+use Rattle.static_types.specs.Types.{AllConsistent}
 
 pub apart_or_consistent : (s t : Ty) → Consistent s t → AreApart s t → ⊥
 apart_or_consistent s t c a = a c.meet c.is_meet.left c.is_meet.right

@@ -5,13 +5,13 @@ use Rattle.mono_syntax.specs.declared.refusal.Reason.TheVariants.{Inconsistent}
 use Rattle.mono_syntax.specs.declared.refusal.Refusal.{Refusal}
 use Rattle.mono_syntax.specs.Expr.{Expr}
 use Rattle.mono_syntax.specs.Ty.{Ty}
-use Rattle.mono_tree.specs.Meet.{AreApart}
+use Rattle.mono_tree.specs.Meet.{AreApart, Consistent}
 use Rattle.static_types.specs.Names.{Names}
 use Rattle.static_types.specs.Parts.{parts}
 use Rattle.static_types.specs.declared.rule.Rule.{Rule}
 use Rattle.static_types.specs.Rules.{RuleOf, RuleFault, at}
 use Rattle.static_types.specs.SourcePlaces.{place_of}
-use Rattle.static_types.specs.Types.{Consistent, Types, TypeAll}
+use Rattle.static_types.specs.Types.{Types, TypeAll}
 
 -- of expressions of these types, each used at a type, the first that can't be is refused where it stands
 pub data UseFault : List Expr → List Ty → List Ty → Refusal → Type 0 where

@@ -6,14 +6,14 @@ use Rattle.mono_syntax.specs.Expr.{Expr}
 use Rattle.mono_syntax.specs.Stmt as stmt
 use Rattle.mono_syntax.specs.Stmt.{Stmt, Block, more_stmts, Branches, more_branches, Else, otherwise}
 use Rattle.mono_syntax.specs.Ty.{Ty, bool}
-use Rattle.mono_tree.specs.Meet.{AreApart}
-use Rattle.mono_tree.specs.WellTyped.{type_of_name}
+use Rattle.mono_tree.specs.Meet.{AreApart, Consistent}
+use Rattle.mono_tree.specs.TypedPrograms.{type_of_name}
 use Rattle.static_types.specs.Faults.{Fault, PartFault, UseFault}
 use Rattle.static_types.specs.Lines.{line_parts, LineRule, TypedLine, TypedGuarded, TypedBranches}
 use Rattle.static_types.specs.Names.{Names}
 use Rattle.static_types.specs.Rules.{member_of, CalleeFault, at}
 use Rattle.static_types.specs.SourcePlaces.{place_of}
-use Rattle.static_types.specs.Types.{Consistent, Types, TypeAll}
+use Rattle.static_types.specs.Types.{Types, TypeAll}
 
 -- a name that is started before, or a callee that can't be called so
 abbrev pub StartFault : Option Ty → Stmt → List Ty → Refusal → Type 0

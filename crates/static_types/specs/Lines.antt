@@ -6,12 +6,13 @@ use Rattle.mono_syntax.specs.ExprView.{exprs_list}
 use Rattle.mono_syntax.specs.Stmt as stmt
 use Rattle.mono_syntax.specs.Stmt.{Stmt, Block, no_stmts, more_stmts, Branches, no_branches, more_branches, Else, no_else, otherwise}
 use Rattle.mono_syntax.specs.Ty.{Ty, dyn, bool}
-use Rattle.mono_tree.specs.WellTyped.{type_of_name}
+use Rattle.mono_tree.specs.TypedPrograms.{type_of_name}
 use Rattle.static_types.specs.Members.{all_dyn}
 use Rattle.static_types.specs.Names.{Names, with_thread}
 use Rattle.static_types.specs.declared.rule.Rule.{Rule}
 use Rattle.static_types.specs.Rules.{member_of, CalleeRule}
-use Rattle.static_types.specs.Types.{Consistent, AllConsistent, Types, TypeAll}
+use Rattle.static_types.specs.Types.{AllConsistent, Types, TypeAll}
+use Rattle.mono_tree.specs.Meet.{Consistent}
 
 -- a bare return is `return None` at its word
 abbrev pub returned : Place → Option Expr → Expr

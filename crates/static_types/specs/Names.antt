@@ -4,7 +4,7 @@ use Rattle.mono_syntax.specs.declared.cast.NamedType.{NamedType}
 use Rattle.mono_syntax.specs.declared.tree.ClassDef.{ClassDef}
 use Rattle.mono_syntax.specs.declared.tree.FuncDef.{FuncDef}
 use Rattle.mono_syntax.specs.Ty.{Ty}
-use Rattle.mono_tree.specs.WellTyped.{type_of_name}
+use Rattle.mono_tree.specs.TypedPrograms.{type_of_name}
 use Rattle.script_rules.specs.Definitions.{function_named}
 use Rattle.script_rules.specs.Writes.{IsFunctionType}
 

@@ -11,7 +11,7 @@ use Rattle.mono_syntax.specs.declared.tree.Script.{Script}
 use Rattle.mono_syntax.specs.Stmt.{Stmt}
 use Rattle.mono_syntax.specs.StmtView.{block}
 use Rattle.mono_syntax.specs.Ty.{Ty, nil}
-use Rattle.mono_tree.specs.Meet.{AreApart}
+use Rattle.mono_tree.specs.Meet.{AreApart, Consistent}
 use Rattle.script_rules.specs.BlockNames.{Target, firsts, all_targets}
 use Rattle.script_rules.specs.Scoping.{class_list, function_list, main_block}
 use Rattle.script_rules.specs.Writes.{WritesAny}
@@ -20,7 +20,6 @@ use Rattle.static_types.specs.Lines.{TypedLine, TypedBlock}
 use Rattle.static_types.specs.LineFaults.{LineFault, BlockFault}
 use Rattle.static_types.specs.Names.{Names}
 use Rattle.static_types.specs.Rules.{at}
-use Rattle.static_types.specs.Types.{Consistent}
 
 -- the names of targets in order, with their types
 abbrev pub AreNames : List ClassDef → List Target → List NamedType → Type 0

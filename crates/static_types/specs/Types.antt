@@ -2,16 +2,11 @@
 use Rattle.std.specs.Prelude.{◌≡◌, List, [], ◌∷◌, ◌++◌}
 use Rattle.mono_syntax.specs.Expr.{Expr}
 use Rattle.mono_syntax.specs.Ty.{Ty}
-use Rattle.mono_tree.specs.Meet.{IsMeet}
+use Rattle.mono_tree.specs.Meet.{Consistent}
 use Rattle.static_types.specs.Names.{Names}
 use Rattle.static_types.specs.Parts.{parts}
 use Rattle.static_types.specs.declared.rule.Rule.{Rule}
 use Rattle.static_types.specs.Rules.{RuleOf}
-
--- a value of type s may be used at t: the two have a meet
-pub record Consistent (s t : Ty) : Type 0 where
-  pub meet : Ty
-  pub is_meet : IsMeet meet s t
 
 -- each of these may be used at its type
 abbrev pub AllConsistent : List Ty → List Ty → Type 0

@@ -7,7 +7,7 @@ use Rattle.std.proofs.lemmas.List.Sorted.{IsPermutation-refl, IsPermutation-tran
 use Rattle.mono_list.proofs.Cases.{split}
 use Rattle.mono_syntax.specs.Ty.{Ty, Fields, no_fields, more_fields}
 use Rattle.mono_tree.specs.FieldNames.{names_of}
-use Rattle.mono_tree.specs.WellTyped.{HasField}
+use Rattle.mono_tree.specs.TypedPrograms.{HasField}
 use Rattle.script_rules.specs.Writes.{put_field, in_order}
 
 put_names : (n : List ℕ) (t : Ty) (fs : Fields) → IsPermutation (n ∷ names_of fs) (names_of (put_field n t fs))

@@ -27,7 +27,7 @@ use Rattle.mono_tree.specs.CastScripts.{fields_of}
 use Rattle.mono_tree.specs.FieldNames.{names_of}
 use Rattle.mono_tree.specs.Sites.{IsSite, IsSiteTo}
 use Rattle.mono_tree.specs.Precise.{below_dyn}
-use Rattle.mono_tree.specs.WellTyped.{type_of_name, HasField, FieldArguments, NewUse, Scope, HasStaticType, HaveStaticTypes, IsOfType, CastUse, Arithmetic, Comparison, Equality, OperatorUse, SiteWhere, HasBranch as CastHasBranch, IsWellTypedStatement, IsWellTypedBlock, AreWellTypedBranches, IsWellTypedElse, scope_of, IsWellTypedClass, IsWellTypedProgram}
+use Rattle.mono_tree.specs.TypedPrograms.{type_of_name, HasField, FieldArguments, NewUse, Scope, HasStaticType, HaveStaticTypes, IsOfType, CastUse, Arithmetic, Comparison, Equality, OperatorUse, SiteWhere, HasBranch as CastHasBranch, IsWellTypedStatement, IsWellTypedBlock, AreWellTypedBranches, IsWellTypedElse, scope_of, IsWellTypedClass, IsTypedProgram}
 use Rattle.mono_tree.proofs.MeetMade.{name_read}
 use Rattle.mono_tree.proofs.PreciseTest.{precise-Decides}
 use Rattle.mono_tree.proofs.TypeLaws.{precise_refl}
@@ -296,7 +296,7 @@ class_typed d p h types c k e =
 nothing_there : {A : Type 0} (xs : List A) (i : ℕ) (x : A) → xs ≡ [] → slice_get xs i ≡ Some x → ⊥
 nothing_there xs i x e h = none_some ⊥ (sym (ap (λ l. slice_get l i) e) ∙ h)
 
-pub well_typed : (d : Scoped) (p : CastScript) → HasCasts d p → HaveClassTypes d → IsWellTypedProgram p
+pub well_typed : (d : Scoped) (p : CastScript) → HasCasts d p → HaveClassTypes d → IsTypedProgram p
 well_typed d p h types =
     let scope : Scope = scope_of p.main None in
     let stmts = all_built p h.names scope (sym h.values) (class_list d.script) h.classes h.main.classes d.script.items h.built in

@@ -20,7 +20,7 @@ use Rattle.mono_syntax.specs.CastStmt.{CastStmt, CastBlock, CastBranches, CastEl
 use Rattle.mono_syntax.specs.CastStmt as cast_stmt
 use Rattle.mono_syntax.specs.Ty.{Ty, dyn, bool, obj, Fields}
 use Rattle.mono_tree.specs.Static.{is_static}
-use Rattle.mono_tree.specs.WellTyped.{type_of_name}
+use Rattle.mono_tree.specs.TypedPrograms.{type_of_name}
 use Rattle.script_rules.specs.BlockNames.{Target, firsts, all_targets}
 use Rattle.script_rules.specs.Scoping.{AreDistinct, class_list, main_block}
 use Rattle.script_rules.specs.Writes.{in_order, IsClassType}

@@ -8,7 +8,7 @@ use Rattle.mono_syntax.specs.declared.tree.Item.TheVariants as item
 use Rattle.mono_syntax.specs.Expr.{Expr, local, number, text, truth, nil, neg, negation, binary, both, either, read, call, cast, Exprs, no_exprs, more_exprs}
 use Rattle.mono_syntax.specs.Stmt.{Stmt, pass, assign, print, write, plain, if_any, loop, Block, no_stmts, more_stmts, Branches, no_branches, more_branches, Else, no_else, otherwise}
 use Rattle.mono_syntax.specs.Ty.{Ty, Fields}
-use Rattle.mono_tree.specs.WellTyped.{type_of_name}
+use Rattle.mono_tree.specs.TypedPrograms.{type_of_name}
 use Rattle.script_rules.specs.Writes.{Writes, Declares}
 use Rattle.typing_rules.specs.Members.{Names, Numbered, class_at}
 

@@ -15,7 +15,7 @@ use Rattle.mono_syntax.specs.CastExpr as cast
 use Rattle.mono_syntax.specs.Ty.{Ty, dyn, int, bool, str, nil, obj, Fields, no_fields, more_fields}
 use Rattle.mono_tree.specs.Precise.{Precise}
 use Rattle.mono_tree.specs.Meet.{IsMeet}
-use Rattle.mono_tree.specs.WellTyped.{type_of_name}
+use Rattle.mono_tree.specs.TypedPrograms.{type_of_name}
 use Rattle.script_rules.specs.Writes.{Writes, Declares, in_order}
 use Rattle.typing_rules.specs.Members.{Names, Numbered, class_at, field_type}
 use Rattle.typing_rules.specs.Operators.{arithmetic, comparison, equality, sort_of}

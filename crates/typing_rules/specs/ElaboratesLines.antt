@@ -13,7 +13,7 @@ use Rattle.mono_syntax.specs.CastStmt.{CastStmt, CastBlock, CastBranches, CastEl
 use Rattle.mono_syntax.specs.CastStmt as cast_stmt
 use Rattle.mono_syntax.specs.Ty.{Ty, dyn, bool, obj, Fields}
 use Rattle.mono_tree.specs.Static.{is_static}
-use Rattle.mono_tree.specs.WellTyped.{type_of_name}
+use Rattle.mono_tree.specs.TypedPrograms.{type_of_name}
 use Rattle.typing_rules.specs.Elaborates.{IsSiteFor, IsPlainSite, Uses, Elaborates, ElaboratesAt, ElaborateAll}
 use Rattle.typing_rules.specs.Members.{Names, field_type}
 use Rattle.typing_rules.specs.SourcePlaces.{place_of}

@@ -12,7 +12,7 @@ use Rattle.mono_syntax.specs.CastExpr.{CastExpr}
 use Rattle.mono_syntax.specs.CastStmt.{CastStmt, CastBlock, CastBranches}
 use Rattle.mono_syntax.specs.Ty.{Ty, bool}
 use Rattle.mono_tree.specs.Meet.{AreApart}
-use Rattle.mono_tree.specs.WellTyped.{type_of_name}
+use Rattle.mono_tree.specs.TypedPrograms.{type_of_name}
 use Rattle.typing_rules.specs.Elaborates.{Elaborates, ElaboratesAt}
 use Rattle.typing_rules.specs.ElaboratesLines.{ElaboratesLine, ElaboratesGuarded, ElaboratesBranches}
 use Rattle.typing_rules.specs.Members.{Names, member_type}

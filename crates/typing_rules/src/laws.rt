@@ -5,7 +5,7 @@ ghost use Rattle.mono_syntax.specs.declared.script.Scoped.{Scoped};
 ghost use Rattle.mono_syntax.specs.declared.tree.ClassDef.{ClassDef};
 ghost use Rattle.mono_syntax.specs.Ty.{Ty};
 ghost use Rattle.mono_tree.specs.IsType.{IsType};
-ghost use Rattle.mono_tree.specs.WellTyped.{IsWellTypedProgram};
+ghost use Rattle.mono_tree.specs.TypedPrograms.{IsTypedProgram};
 ghost use Rattle.script_rules.specs.Writes.{IsClassType};
 ghost use Rattle.typing_rules.specs.ClassLimits.{AreFit};
 ghost use Rattle.typing_rules.specs.HasCasts.{HasCasts, HaveClassTypes};
@@ -17,7 +17,7 @@ pub fn casts_are_unique()
 
 /// A script with its casts is well typed, where the types of its classes are types.
 pub fn casts_are_typed()
-    ensures { (d : Scoped) (p : CastScript) → HasCasts d p → HaveClassTypes d → IsWellTypedProgram p }
+    ensures { (d : Scoped) (p : CastScript) → HasCasts d p → HaveClassTypes d → IsTypedProgram p }
 {}
 
 /// The type of a class is a type, where no field stands twice and no Callable has over eight parameters.

@@ -12,7 +12,7 @@ index_mut-requires c =
 pub returns-in-Some : goal.returns-in-Some
 returns-in-Some c =
     let h = c.args.objects.now.items in
-    ap (λ (cells : List (List ℕ × Cell)). set h c.in-Some.at (record { class = c.index_mut.result.now.class; cells = cells })) c.set.ensures
+    ap (λ (cells : List (List ℕ × Cell)). set h c.in-Some.at (record c.index_mut.result.now { cells = cells })) c.set.ensures
     ∙ place_writes h h refl c.args.base c.in-Some.at c.args.field.now c.args.cell c.index_mut.result.now (c.in-Some.ensures h c.requires.starts) c.index_mut.ensures.value
 
 pub returns-in_default : goal.returns-in_default

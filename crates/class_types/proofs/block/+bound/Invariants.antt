@@ -1,7 +1,7 @@
 use Rattle.std.proofs.Common.{◌≡◌, ◌+◌, ◌*◌, ◌++◌, map, drop}
 use Rattle.mono_syntax.specs.Stmt.{stmt_size, block_size, branches_size, else_size}
 use Rattle.mono_syntax.specs.StmtView.{block, branches, else_block}
-use Rattle.class_types.specs.SourceParts.{block_bound, branch_bound}
+use Rattle.script_rules.specs.SourceParts.{block_bound, branch_bound}
 use Rattle.class_types.proofs.block.+bound.Given as goal
 
 abbrev pub decreases-bound : goal.decreases-bound

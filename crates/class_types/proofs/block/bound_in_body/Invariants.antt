@@ -1,5 +1,5 @@
 use Rattle.std.proofs.Common.{◌≡◌, ◌++◌, map, drop}
-use Rattle.class_types.specs.SourceParts.{body_bound}
+use Rattle.script_rules.specs.SourceParts.{body_bound}
 use Rattle.class_types.proofs.block.bound_in_body.Given as goal
 
 abbrev pub invariant-loop-s : goal.invariant-loop-s

@@ -1,6 +1,6 @@
 use Rattle.std.proofs.Common.{◌≡◌, ◌++◌, map, drop}
 use Rattle.script_rules.specs.Definitions.{statements_of}
-use Rattle.class_types.specs.SourceParts.{body_bound}
+use Rattle.script_rules.specs.SourceParts.{body_bound}
 use Rattle.class_types.proofs.block.bound_in_main.Given as goal
 
 abbrev pub invariant-loop-item : goal.invariant-loop-item

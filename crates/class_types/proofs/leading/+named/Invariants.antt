@@ -3,7 +3,7 @@ use Rattle.mono_syntax.specs.Ann.{ann_size, anns_size}
 use Rattle.mono_syntax.specs.AnnView.{anns}
 use Rattle.class_types.specs.FoundFaults.{found}
 use Rattle.class_types.specs.Leading.{word_fault}
-use Rattle.class_types.specs.Recursion.{names_in_all}
+use Rattle.script_rules.specs.Recursion.{names_in_all}
 use Rattle.class_types.proofs.leading.+named.Given as goal
 
 abbrev pub decreases-named : goal.decreases-named

@@ -1,7 +1,7 @@
 use Rattle.std.proofs.Common.{◌≡◌, drop}
 use Rattle.class_types.specs.FoundFaults.{found}
 use Rattle.class_types.specs.Leading.{word_fault}
-use Rattle.class_types.specs.Recursion.{field_names}
+use Rattle.script_rules.specs.Recursion.{field_names}
 use Rattle.class_types.proofs.leading.named_in_fields.Given as goal
 
 abbrev pub invariant-loop-field : goal.invariant-loop-field

@@ -2,8 +2,8 @@ use Rattle.std.proofs.Common.{◌≡◌, ◌∙◌, subst, map, Some}
 use Rattle.class_types.specs.FoundFaults.{found}
 use Rattle.class_types.specs.Leading.{word_fault}
 use Rattle.class_types.specs.Made.{names_of_classes, place_in}
-use Rattle.class_types.specs.Measured.{leaf}
-use Rattle.class_types.specs.Recursion.{field_names}
+use Rattle.mono_tree.specs.CountedSizes.{leaf}
+use Rattle.script_rules.specs.Recursion.{field_names}
 use Rattle.class_types.proofs.RecursionLaws.{adds-none, adds-named, sized-safe}
 use Rattle.class_types.proofs.recursion.class_fault.Goals as goal
 

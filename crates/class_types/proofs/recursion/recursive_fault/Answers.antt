@@ -2,8 +2,8 @@ use Rattle.std.proofs.Common.{◌≡◌, ◌∙◌, ap, subst, map, IfOk}
 use Rattle.std.specs.Prelude.{MatchOption}
 use Rattle.script_rules.specs.Definitions.{classes_of}
 use Rattle.script_rules.specs.Scoping.{class_list}
-use Rattle.class_types.specs.FirstFault.{IsFirst, IsFaultless}
-use Rattle.class_types.specs.Recursion.{IsRecursive}
+use Rattle.script_rules.specs.FirstFault.{IsFirst, IsFaultless}
+use Rattle.script_rules.specs.Recursion.{IsRecursive}
 use Rattle.class_types.proofs.recursion.recursive_fault.Goals as goal
 
 pub returns : goal.returns

@@ -1,7 +1,7 @@
 use Rattle.std.proofs.Common.{◌≡◌, None, drop}
 use Rattle.class_types.specs.FoundFaults.{found, part_faults}
 use Rattle.class_types.specs.Made.{look}
-use Rattle.class_types.specs.SourceParts.{field_parts}
+use Rattle.script_rules.specs.SourceParts.{field_parts}
 use Rattle.class_types.proofs.sizes.field_faults.Given as goal
 
 abbrev pub invariant-loop-field : goal.invariant-loop-field

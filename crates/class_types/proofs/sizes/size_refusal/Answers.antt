@@ -5,7 +5,7 @@ use Rattle.script_rules.specs.Scoping.{class_list}
 use Rattle.class_types.specs.FoundFaults.{first_from, items_faults, name_fault, script_faults}
 use Rattle.class_types.specs.Made.{look, names_of_classes}
 use Rattle.class_types.specs.Measured.{AreMeasured}
-use Rattle.class_types.specs.SourceParts.{block_names}
+use Rattle.script_rules.specs.SourceParts.{block_names}
 use Rattle.class_types.proofs.FoundLaws.{first-append, if_ok}
 use Rattle.class_types.proofs.SizeFaultLaws.{first-fault}
 use Rattle.class_types.proofs.sizes.size_refusal.Goals as goal

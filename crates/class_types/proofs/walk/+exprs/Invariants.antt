@@ -3,7 +3,7 @@ use Rattle.mono_syntax.specs.Expr.{expr_size, exprs_size}
 use Rattle.mono_syntax.specs.ExprView.{exprs}
 use Rattle.class_types.specs.FoundFaults.{found, part_faults}
 use Rattle.class_types.specs.Made.{look}
-use Rattle.class_types.specs.SourceParts.{exprs_parts}
+use Rattle.script_rules.specs.SourceParts.{exprs_parts}
 use Rattle.class_types.proofs.walk.+exprs.Given as goal
 
 abbrev pub decreases-expr_faults : goal.decreases-expr_faults

@@ -3,7 +3,7 @@ use Rattle.mono_syntax.specs.Stmt.{stmt_size, block_size, branches_size, else_si
 use Rattle.mono_syntax.specs.StmtView.{block, branches, else_block}
 use Rattle.class_types.specs.FoundFaults.{found, part_faults}
 use Rattle.class_types.specs.Made.{look}
-use Rattle.class_types.specs.SourceParts.{block_parts, branch_parts}
+use Rattle.script_rules.specs.SourceParts.{block_parts, branch_parts}
 use Rattle.class_types.proofs.walk.+stmts.Given as goal
 
 abbrev pub decreases-stmt_faults : goal.decreases-stmt_faults

@@ -1,5 +1,5 @@
 use Rattle.std.proofs.Common.{◌≡◌, drop}
-use Rattle.mono_tree.specs.WellTyped.{type_of_name}
+use Rattle.mono_tree.specs.TypedPrograms.{type_of_name}
 use Rattle.known_names.proofs.annotations.type_of.Given as goal
 
 abbrev pub invariant-loop-known : goal.invariant-loop-known

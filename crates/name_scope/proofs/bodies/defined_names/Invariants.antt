@@ -1,6 +1,6 @@
 use Rattle.std.proofs.Common.{◌≡◌, ◌++◌, drop}
 use Rattle.std.specs.Prelude.{flat_map}
-use Rattle.name_scope.specs.Occurrences.{defined_by}
+use Rattle.script_rules.specs.Occurrences.{defined_by}
 use Rattle.name_scope.proofs.bodies.defined_names.Given as goal
 
 -- what is put, and what is left behind it

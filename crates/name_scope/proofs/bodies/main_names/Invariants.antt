@@ -1,7 +1,7 @@
 use Rattle.std.proofs.Common.{◌≡◌, ◌++◌, drop}
 use Rattle.mono_syntax.specs.StmtView.{block}
 use Rattle.script_rules.specs.Definitions.{statements_of}
-use Rattle.name_scope.specs.Occurrences.{in_block}
+use Rattle.script_rules.specs.Occurrences.{in_block}
 use Rattle.name_scope.proofs.bodies.main_names.Given as goal
 
 -- what is put, and what is left behind it

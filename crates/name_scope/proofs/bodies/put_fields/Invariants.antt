@@ -1,6 +1,6 @@
 use Rattle.std.proofs.Common.{◌≡◌, ◌++◌, drop}
 use Rattle.std.specs.Prelude.{flat_map}
-use Rattle.name_scope.specs.Occurrences.{in_field}
+use Rattle.script_rules.specs.Occurrences.{in_field}
 use Rattle.name_scope.proofs.bodies.put_fields.Given as goal
 
 -- what is put, and what is left behind it

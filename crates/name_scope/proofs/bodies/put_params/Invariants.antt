@@ -1,6 +1,6 @@
 use Rattle.std.proofs.Common.{◌≡◌, ◌++◌, drop}
 use Rattle.std.specs.Prelude.{flat_map}
-use Rattle.name_scope.specs.Occurrences.{in_param}
+use Rattle.script_rules.specs.Occurrences.{in_param}
 use Rattle.name_scope.proofs.bodies.put_params.Given as goal
 
 -- what is put, and what is left behind it

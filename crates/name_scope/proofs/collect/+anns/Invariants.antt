@@ -1,7 +1,7 @@
 use Rattle.std.proofs.Common.{◌≡◌, ◌+◌, ◌*◌, ◌++◌, drop}
 use Rattle.mono_syntax.specs.Ann.{ann_size, anns_size}
 use Rattle.mono_syntax.specs.AnnView.{anns}
-use Rattle.name_scope.specs.Occurrences.{in_anns}
+use Rattle.script_rules.specs.Occurrences.{in_anns}
 use Rattle.name_scope.proofs.collect.+anns.Given as goal
 
 abbrev pub decreases-put_ann : goal.decreases-put_ann

@@ -1,7 +1,7 @@
 use Rattle.std.proofs.Common.{◌≡◌, ◌+◌, ◌*◌, ◌++◌, drop}
 use Rattle.mono_syntax.specs.Expr.{expr_size, exprs_size}
 use Rattle.mono_syntax.specs.ExprView.{exprs}
-use Rattle.name_scope.specs.Occurrences.{in_exprs}
+use Rattle.script_rules.specs.Occurrences.{in_exprs}
 use Rattle.name_scope.proofs.collect.+exprs.Given as goal
 
 abbrev pub decreases-put_expr : goal.decreases-put_expr

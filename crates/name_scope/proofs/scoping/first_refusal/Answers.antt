@@ -2,10 +2,10 @@ use Rattle.std.proofs.Common.{Option, sym, subst}
 use Rattle.std.specs.Prelude.{MatchOption}
 use Rattle.mono_syntax.specs.declared.refusal.Refusal.{Refusal}
 use Rattle.script_rules.specs.Scoping.{class_list}
-use Rattle.class_types.specs.FirstFault.{IsFirst, IsFaultless}
-use Rattle.class_types.specs.Recursion.{IsRecursive}
-use Rattle.name_scope.specs.NameFaults.{NameFault}
-use Rattle.name_scope.specs.ScopeFaults.{ScopeFault}
+use Rattle.script_rules.specs.FirstFault.{IsFirst, IsFaultless}
+use Rattle.script_rules.specs.Recursion.{IsRecursive}
+use Rattle.script_rules.specs.NameFaults.{NameFault}
+use Rattle.script_rules.specs.ScopeFaults.{ScopeFault}
 use Rattle.name_scope.proofs.FaultOrder.{both_first}
 use Rattle.name_scope.proofs.scoping.first_refusal.Goals as goal
 

@@ -1,8 +1,8 @@
 use Rattle.std.proofs.Common.{Option, subst}
 use Rattle.std.specs.Prelude.{MatchOption}
 use Rattle.mono_syntax.specs.declared.refusal.Refusal.{Refusal}
-use Rattle.class_types.specs.FirstFault.{IsFirst, IsFaultless}
-use Rattle.name_scope.specs.ScopeFaults.{ScopeFault, misnamed}
+use Rattle.script_rules.specs.FirstFault.{IsFirst, IsFaultless}
+use Rattle.script_rules.specs.ScopeFaults.{ScopeFault, misnamed}
 use Rattle.name_scope.proofs.Answers.{sized}
 use Rattle.name_scope.proofs.scoping.script_refusal.Goals as goal
 

@@ -1,7 +1,7 @@
 use Rattle.std.proofs.Common.{◌≡◌, ◌+◌, ◌*◌, ◌++◌, drop}
 use Rattle.mono_syntax.specs.Stmt.{stmt_size, block_size, branches_size, else_size}
 use Rattle.mono_syntax.specs.StmtView.{block, branches, else_block}
-use Rattle.name_scope.specs.Occurrences.{in_block, in_branches}
+use Rattle.script_rules.specs.Occurrences.{in_block, in_branches}
 use Rattle.name_scope.proofs.statements.+stmts.Given as goal
 
 abbrev pub decreases-put_stmt : goal.decreases-put_stmt

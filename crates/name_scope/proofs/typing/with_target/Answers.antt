@@ -1,6 +1,6 @@
 use Rattle.std.proofs.Common.{◌≡◌, ℕ, List, cond, subst}
 use Rattle.std.specs.Prelude.{bytes_eq}
-use Rattle.name_scope.specs.declared.occurrence.Occurrence.{Occurrence}
+use Rattle.script_rules.specs.declared.occurrence.Occurrence.{Occurrence}
 use Rattle.name_scope.specs.Bound.{target_of}
 use Rattle.name_scope.specs.NameRoles.{alone, together}
 use Rattle.name_scope.specs.Table.{roles_in}

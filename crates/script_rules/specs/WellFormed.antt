@@ -3,7 +3,7 @@ use Rattle.std.specs.Prelude.{ℕ, ◌≤◌, List, [], ◌∷◌, map, Contains
 use Rattle.mono_syntax.specs.declared.tree.ClassDef.{ClassDef}
 use Rattle.mono_syntax.specs.declared.tree.FieldDef.{FieldDef}
 use Rattle.mono_syntax.specs.Ann.{Ann}
-use Rattle.class_types.specs.SourceParts.{Counted, callables}
+use Rattle.script_rules.specs.SourceParts.{Counted, callables}
 
 -- each name stands once
 abbrev pub AreApart : List (List ℕ) → Type 0

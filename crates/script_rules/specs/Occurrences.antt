@@ -14,9 +14,9 @@ use Rattle.mono_syntax.specs.Expr.{Expr, Exprs, local, number, text, truth, nil,
 use Rattle.mono_syntax.specs.Stmt.{Stmt, pass, give, print, assign, write, start, plain, if_any, loop, Block, no_stmts, more_stmts, Branches, no_branches, more_branches, Else, no_else, otherwise}
 use Rattle.mono_syntax.specs.StmtView.{block}
 use Rattle.script_rules.specs.Definitions.{statements_of}
-use Rattle.name_scope.specs.declared.occurrence.Occurrence.{Occurrence}
-use Rattle.name_scope.specs.declared.occurrence.Role.{Role}
-use Rattle.name_scope.specs.declared.occurrence.Role.TheVariants as role
+use Rattle.script_rules.specs.declared.occurrence.Occurrence.{Occurrence}
+use Rattle.script_rules.specs.declared.occurrence.Role.{Role}
+use Rattle.script_rules.specs.declared.occurrence.Role.TheVariants as role
 
 abbrev pub at : Role → Word → Occurrence
 at r w = record { role = r; text = w.text; place = w.place }

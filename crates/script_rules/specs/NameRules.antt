@@ -1,9 +1,9 @@
 -- What a name does where it stands, and where a name does it.
 use Rattle.std.specs.Prelude.{◌≡◌, ℕ, List, ◌∷◌, ◌++◌, Bool, true, false, IsTrue, ◌&&◌, ◌||◌, ◌==◌, Contains, nat_lt, if◌then◌else◌}
 use Rattle.mono_syntax.specs.declared.leaf.Place.{Place}
-use Rattle.name_scope.specs.declared.occurrence.Occurrence.{Occurrence}
-use Rattle.name_scope.specs.declared.occurrence.Role.{Role}
-use Rattle.name_scope.specs.declared.occurrence.Role.TheVariants as role
+use Rattle.script_rules.specs.declared.occurrence.Occurrence.{Occurrence}
+use Rattle.script_rules.specs.declared.occurrence.Role.{Role}
+use Rattle.script_rules.specs.declared.occurrence.Role.TheVariants as role
 
 -- it is read, called or joined
 abbrev pub is_use : Role → Bool

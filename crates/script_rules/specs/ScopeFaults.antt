@@ -8,10 +8,10 @@ use Rattle.mono_syntax.specs.declared.refusal.Refusal.{Refusal}
 use Rattle.mono_syntax.specs.declared.script.Scoped.{Scoped}
 use Rattle.mono_syntax.specs.declared.tree.Script.{Script}
 use Rattle.script_rules.specs.Scoping.{class_list, IsScope}
-use Rattle.class_types.specs.FirstFault.{IsFirst, IsFaultless}
-use Rattle.class_types.specs.Recursion.{IsRecursive}
-use Rattle.class_types.specs.SizeFaults.{SizeFault}
-use Rattle.name_scope.specs.NameFaults.{NameFault}
+use Rattle.script_rules.specs.FirstFault.{IsFirst, IsFaultless}
+use Rattle.script_rules.specs.Recursion.{IsRecursive}
+use Rattle.script_rules.specs.SizeFaults.{SizeFault}
+use Rattle.script_rules.specs.NameFaults.{NameFault}
 
 -- a fault of names, or a class that leads back to itself
 abbrev pub ScopeFault : Script → Place → Reason → Type 0

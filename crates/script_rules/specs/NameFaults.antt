@@ -4,10 +4,10 @@ use Rattle.mono_syntax.specs.declared.leaf.Place.{Place}
 use Rattle.mono_syntax.specs.declared.refusal.Reason.{Reason}
 use Rattle.mono_syntax.specs.declared.refusal.Reason.TheVariants.{UnknownName, Twice, Misused}
 use Rattle.mono_syntax.specs.declared.tree.Script.{Script}
-use Rattle.name_scope.specs.declared.occurrence.Occurrence.{Occurrence}
-use Rattle.name_scope.specs.declared.occurrence.Role.TheVariants as role
-use Rattle.name_scope.specs.Occurrences.{definitions, bodies}
-use Rattle.name_scope.specs.Rules.{is_use, is_value_use, gives_name, is_first_name, is_field, is_start, is_start_end, is_class, is_definition, Stands, StandsBehind, FirstDefined, later}
+use Rattle.script_rules.specs.declared.occurrence.Occurrence.{Occurrence}
+use Rattle.script_rules.specs.declared.occurrence.Role.TheVariants as role
+use Rattle.script_rules.specs.Occurrences.{definitions, bodies}
+use Rattle.script_rules.specs.NameRules.{is_use, is_value_use, gives_name, is_first_name, is_field, is_start, is_start_end, is_class, is_definition, Stands, StandsBehind, FirstDefined, later}
 
 -- a fault in this part of a script with these definitions: where it stands, and what it is
 pub data BodyFault (script body : List Occurrence) : Place → Reason → Type 0 where

@@ -2,6 +2,7 @@
 -- at its site's source and gives the target, and every use is at a type that the expression's type is at least as precise
 -- as.
 use Rattle.std.specs.Prelude.{◌≡◌, ◌⊎◌, IsPermutation, ℕ, ◌≤◌, Bool, true, false, List, [], ◌∷◌, Option, Some, None, bytes_eq, if◌then◌else◌, slice_get}
+use Rattle.mono_syntax.specs.Limits.{greatest_integer}
 use Rattle.mono_syntax.specs.Ty.{Ty, dyn, int, bool, str, nil, fun, obj, Tys, no_tys, more_tys, Fields, no_fields, more_fields}
 use Rattle.mono_syntax.specs.CastExpr as expr
 use Rattle.mono_syntax.specs.CastExpr.{CastExpr, CastExprs, no_exprs, more_exprs, Args, no_args, more_args}
@@ -162,7 +163,7 @@ UsedAt types t = (u : Ty) × types u × IsUsedAt u t
 abbrev mutual
   -- the expression has the static type t
   pub HasStaticType : CastScript → Scope → CastExpr → Ty → Type 0
-  HasStaticType p s (expr.number n) t = (n ≤ 140737488355327) × (t ≡ int)
+  HasStaticType p s (expr.number n) t = (n ≤ greatest_integer) × (t ≡ int)
   HasStaticType p s (expr.text x) t = t ≡ str
   HasStaticType p s (expr.truth b) t = t ≡ bool
   HasStaticType p s expr.nil t = t ≡ nil
@@ -268,7 +269,7 @@ pub record IsWellTypedFunction (p : CastScript) (d : CastFunction) : Type 0 wher
   pub body : IsWellTypedBlock p (scope_of d.block (Some result)) (cast_block d.block.body)
   pub end : EndUse p (scope_of d.block (Some result)) d.falls (may_end (cast_block d.block.body))
 
-pub record IsWellTypedProgram (p : CastScript) : Type 0 where
+pub record IsTypedProgram (p : CastScript) : Type 0 where
   pub classes : (c : ℕ) (d : CastClass) → slice_get p.classes c ≡ Some d → IsWellTypedClass d
   pub functions : (g : ℕ) (d : CastFunction) → slice_get p.functions g ≡ Some d → IsWellTypedFunction p d
   pub main : IsWellTypedBlock p (scope_of p.main None) (cast_block p.main.body)

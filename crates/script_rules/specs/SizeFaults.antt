@@ -11,8 +11,8 @@ use Rattle.mono_syntax.specs.Ann.{Ann}
 use Rattle.mono_syntax.specs.Ty.{Ty}
 use Rattle.script_rules.specs.Scoping.{class_list, function_list, main_block}
 use Rattle.script_rules.specs.Writes.{Writes, IsClassType, IsFunctionType}
-use Rattle.class_types.specs.Sizes.{IsTooLarge}
-use Rattle.class_types.specs.SourceParts.{Counted, place_of, callables, annotation, arguments, parts_of, block_names}
+use Rattle.mono_tree.specs.Sizes.{IsTooLarge}
+use Rattle.script_rules.specs.SourceParts.{Counted, place_of, callables, annotation, arguments, parts_of, block_names}
 
 -- a fault of size: where it stands, and what is too large
 pub data SizeFault (s : Script) : Place → Reason → Type 0 where

@@ -1,5 +1,6 @@
 -- How large a type is.
 use Rattle.std.specs.Prelude.{ℕ, ◌+◌, ◌<◌, ◌⊎◌, max}
+use Rattle.mono_syntax.specs.Limits.{most_nodes, greatest_depth}
 use Rattle.mono_syntax.specs.Ty.{Ty, fun, obj, Tys, no_tys, more_tys, Fields, no_fields, more_fields}
 
 -- a leaf is one node, every other type one and the sum of its parts
@@ -32,6 +33,6 @@ abbrev mutual
   depth_of_fields no_fields = 0
   depth_of_fields (more_fields n t fs) = max (depth_of t) (depth_of_fields fs)
 
--- a type has at most 1,024 nodes and a depth of at most 32
+-- over the limits
 abbrev pub IsTooLarge : Ty → Type 0
-IsTooLarge t = (1024 < nodes_of t) ⊎ (32 < depth_of t)
+IsTooLarge t = (most_nodes < nodes_of t) ⊎ (greatest_depth < depth_of t)

@@ -1,5 +1,5 @@
 ghost use Rattle.std.specs.Prelude.{◌≡◌, IfOk};
-ghost use Rattle.name_scope.specs.Occurrences.{at};
+ghost use Rattle.script_rules.specs.Occurrences.{at};
 
 use mono_syntax::{Name, Place, Word};
 use std::alloc::AllocError;
@@ -40,7 +40,7 @@ pub struct Occurrence {
 
 impl Occurrence {
     /// A word in a role.
-    pub(crate) fn new(role: Role, word: &Word) -> Result<Occurrence, AllocError>
+    pub fn new(role: Role, word: &Word) -> Result<Occurrence, AllocError>
         ensures { IfOk result (λ o. o ≡ at role word.now) }
     {
         let text = word.text.share()?;
