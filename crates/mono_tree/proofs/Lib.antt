@@ -13,3 +13,9 @@ pub mod TypeLaws
 pub mod AsComputed
 pub mod Names
 pub mod SizeLaws
+pub mod ClosedPuts
+pub mod ClosedParts
+pub mod ClosedFinite
+pub mod ClosedMembers
+pub mod ClosedOrder
+pub mod ClosedStill

@@ -6,6 +6,7 @@ pub mod Meet
 pub mod Static
 pub mod Sizes
 pub mod CountedSizes
+pub mod ClosedList
 pub mod CastScripts
 pub mod Sites
 pub mod BodyEnds

@@ -1,6 +1,7 @@
 //! What holds of precision and meets whatever the types.
-ghost use Rattle.std.specs.Prelude.{◌≡◌, ◌↔◌, Some, None, option_and_then};
+ghost use Rattle.std.specs.Prelude.{◌≡◌, ◌↔◌, ℕ, List, Some, None, Contains, option_and_then};
 ghost use Rattle.mono_syntax.specs.Ty.{Ty, dyn};
+ghost use Rattle.mono_tree.specs.ClosedList.{IsClosed, IsClosedList, AreDistinct, IsOrdered, with_row};
 ghost use Rattle.mono_tree.specs.Meet.{IsMeet, AreApart, meet_of, meet_three};
 ghost use Rattle.mono_tree.specs.Precise.{Precise};
 
@@ -24,4 +25,15 @@ pub fn meet_laws()
     // All groupings of three types, in all their orders, give one type, or all of them fail.
     ensures swapped { (a b c : Ty) → meet_three a b c ≡ meet_three b a c }
     ensures turned { (a b c : Ty) → meet_three a b c ≡ meet_three b c a }
+{}
+
+/// Of given types there is one closed list. It is finite, has each type once, each part of a type before it, and its
+/// members are the closed set: the base types, the given types, their parts, and all meets. To close it again adds nothing.
+pub fn closed_list_laws()
+    ensures exists { (types : List Ty) → (l : List Ty) × IsClosedList types l }
+    ensures unique { (types l m : List Ty) → IsClosedList types l → IsClosedList types m → l ≡ m }
+    ensures distinct { (types l : List Ty) → IsClosedList types l → AreDistinct l }
+    ensures ordered { (types l : List Ty) → IsClosedList types l → IsOrdered l }
+    ensures still { (types l : List Ty) (n : ℕ) → IsClosedList types l → with_row l n ≡ l }
+    ensures members { (types l : List Ty) (t : Ty) → IsClosedList types l → (IsClosed types t ↔ Contains l t) }
 {}
