@@ -15,7 +15,7 @@ use Rattle.static_types.specs.Faults.{Fault, in_part, no_rule, at_use, PartFault
 use Rattle.static_types.specs.Names.{Names}
 use Rattle.static_types.specs.Parts.{class_called, call_parts, parts}
 use Rattle.static_types.specs.Rules.{RuleOf}
-use Rattle.static_types.specs.SourcePlaces.{place_of}
+use Rattle.script_rules.specs.SourcePlaces.{place_of}
 use Rattle.static_types.specs.Types.{Types, has_type, TypeAll, of_none, of_more}
 use Rattle.known_names.specs.declared.known.Known.{Known}
 use Rattle.known_names.specs.declared.known.KnownClass.{KnownClass}

@@ -10,7 +10,7 @@ use Rattle.mono_tree.specs.Meet.{AreApart, meet_of, Consistent}
 use Rattle.mono_tree.proofs.MeetMade.{meet_is, none_apart}
 use Rattle.static_types.specs.Faults.{UseFault, here, later}
 use Rattle.static_types.specs.Rules.{at}
-use Rattle.static_types.specs.SourcePlaces.{place_of}
+use Rattle.script_rules.specs.SourcePlaces.{place_of}
 use Rattle.static_types.specs.Types.{AllConsistent}
 use Rattle.known_names.specs.TypeList.{consistent}
 use Rattle.consistency.specs.declared.parts.Part.{Part}

@@ -7,7 +7,7 @@ use Rattle.mono_syntax.specs.Expr as expr
 use Rattle.mono_syntax.specs.Expr.{Expr, Exprs, no_exprs, more_exprs}
 use Rattle.mono_syntax.specs.Ty.{Ty}
 use Rattle.static_types.specs.Rules.{at}
-use Rattle.static_types.specs.SourcePlaces.{place_of}
+use Rattle.script_rules.specs.SourcePlaces.{place_of}
 use Rattle.known_names.specs.declared.known.Known.{Known}
 use Rattle.known_names.specs.declared.known.Local.{Local}
 use Rattle.consistency.specs.declared.parts.Parts.{Parts}

@@ -1,6 +1,6 @@
 ghost use Rattle.std.specs.Prelude.{◌≡◌};
 ghost use Rattle.mono_syntax.specs.Ann.{Ann};
-ghost use Rattle.static_types.specs.SourcePlaces.{place_of};
+ghost use Rattle.script_rules.specs.SourcePlaces.{place_of};
 
 use mono_syntax::{Expr, ExprKind, Place};
 

@@ -1,5 +1,5 @@
 -- How many elements a stack in tiers has, and a write in its top tier.
-use Rattle.std.proofs.Common.{ℕ, zero, suc, ◌+◌, ◌-◌, ◌<◌, ◌≤◌, ◌≡◌, List, [], ◌∷◌, ◌++◌, length, reverse, take, drop, set, slice_set, arith, sym, ap, refl, ◌∙◌, length-drop}
+use Rattle.std.proofs.Common.{ℕ, zero, suc, ◌+◌, ◌≤◌, ◌≡◌, List, [], ◌∷◌, length, reverse, take, drop, set, slice_set, arith, sym, ap, refl, ◌∙◌, length-drop}
 use Rattle.std.proofs.lemmas.List.{length-reverse, length-take-le}
 use Rattle.mono_list.proofs.Reversed.{set_back}
 use Rattle.mono_list.specs.Tiered.{tiers, total, AreStarts, size, tiered}

@@ -1,13 +1,17 @@
 ghost use Rattle.std.specs.Prelude.{◌≡◌, ◌<◌, ◌≤◌, [], ◌∷◌, length, slice_get, slice_set, IfOk, MatchOption};
 ghost use Rattle.std.specs.Option.{option_copied};
-ghost use Rattle.mono_list.specs.Tiered.{Tiered, size, MatchTier};
+ghost use Rattle.mono_list.specs.Tiered.{Tiered, room, size, MatchTier};
 
 use std::alloc::{AllocError, Global};
 use std::marker::Model;
 
-const ROOM: usize = 16512;
+/// How many elements and how many lower tiers there is room for: the 16,384 items that a thread may have, and 128 more, so
+/// that a step can put its items before they are counted.
+const ROOM: usize = 16_512;
 
-/// A stack in tiers with room for 16,384 elements.
+/// A stack in tiers, as the frames of a thread are: elements go on the top tier and off it, and a tier is opened above it or
+/// closed. All memory is taken by `new`, so that no other call can want any. Contracts see the tiers as lists, each with its
+/// top first.
 #[derive(Drop)]
 pub struct Tiers<T> {
     items: Vec<T>,
@@ -17,20 +21,20 @@ pub struct Tiers<T> {
 
 impl<T> Model for Tiers<T> {
     ghost use Rattle.std.specs.Prelude.{◌≡◌, ◌≤◌, reverse, length, vec_capacity};
-    ghost use Rattle.mono_list.specs.Tiered.{Tiered, tiered, AreStarts};
+    ghost use Rattle.mono_list.specs.Tiered.{Tiered, room, tiered, AreStarts};
 
     ghost Value = { Tiered T };
 
     ghost view = { λ t. tiered t.from (reverse t.starts.items) t.items.items };
 
-    ghost invariant = { λ t. (t.from ≤ length t.items.items) × AreStarts (reverse t.starts.items) t.from × (vec_capacity t.items ≡ 16512) × (vec_capacity t.starts ≡ 16512) };
+    ghost invariant = { λ t. (t.from ≤ length t.items.items) × AreStarts (reverse t.starts.items) t.from × (vec_capacity t.items ≡ room) × (vec_capacity t.starts ≡ room) };
 }
 
 impl<T> Tiers<T> {
     /// How many elements there are in all tiers.
     pub fn len(&self) -> usize
         ensures size { result ≡ size self.now }
-        ensures room { result ≤ 16512 }
+        ensures room { result ≤ room }
     {
         self.items.len()
     }
@@ -44,7 +48,7 @@ impl<T> Tiers<T> {
 
     /// Puts an element on top.
     pub fn push(&mut self, item: T)
-        requires { size self.old < 16512 }
+        requires { size self.old < room }
         ensures { self.new ≡ record self.old { top = item ∷ (self.old).top } }
     {
         self.items.push_reserved(item);
@@ -100,7 +104,7 @@ impl<T: Drop> Tiers<T> {
 
     /// One more tier on top.
     pub fn open(&mut self)
-        requires { length (self.old).below < 16512 }
+        requires { length (self.old).below < room }
         ensures { self.new ≡ record { top = []; below = (self.old).top ∷ (self.old).below } }
     {
         self.starts.push_reserved(self.from);

@@ -1,10 +1,10 @@
 -- Loops over two lists at once: what is left decides.
-use Rattle.std.proofs.Common.{◌≡◌, suc, true, false, List, [], ◌∷◌, length, refl, arith}
+use Rattle.std.proofs.Common.{◌≡◌, true, false, List, [], ◌∷◌, length, refl, arith}
 use Rattle.mono_syntax.specs.declared.tree.Field as rust_field
 use Rattle.mono_syntax.specs.Ty.{Ty}
-use Rattle.mono_syntax.specs.TyEq.{ty_eq, tys_eq, fields_eq}
+use Rattle.mono_syntax.specs.TyEq.{tys_eq, fields_eq}
 use Rattle.mono_syntax.specs.TyView.{tys, fields}
-use Rattle.std.specs.Prelude.{bytes_eq, Bool, ◌&&◌}
+use Rattle.std.specs.Prelude.{Bool, ◌&&◌}
 
 and-false : (b : Bool) → b && false ≡ false
 and-false true = refl

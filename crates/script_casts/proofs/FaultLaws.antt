@@ -21,7 +21,7 @@ use Rattle.mono_tree.specs.TypedPrograms.{type_of_name}
 use Rattle.typing_rules.specs.Elaborates.{Elaborates}
 use Rattle.typing_rules.specs.Members.{Names, Numbered, class_at, field_type, member_type, field_count, expr_count}
 use Rattle.typing_rules.specs.Operators.{Sort, arithmetic, comparison, equality, sort_of}
-use Rattle.typing_rules.specs.SourcePlaces.{place_of}
+use Rattle.script_rules.specs.SourcePlaces.{place_of}
 use Rattle.typing_rules.specs.TypingFaults.{at, TypingFault, in_integers, in_left, in_right, in_neg, in_not, in_both, in_either, FaultAt, in_used, at_used, PairFault, in_first, in_second, at_first, at_second, in_object, no_field, in_cast, at_cast, in_argument, arity, at_argument, FaultIn, in_head, in_tail, UseFault}
 use Rattle.script_casts.specs.declared.known.Known.{Known}
 use Rattle.script_casts.specs.declared.known.KnownClass.{KnownClass}

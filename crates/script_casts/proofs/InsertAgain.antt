@@ -29,7 +29,7 @@ use Rattle.script_rules.specs.Writes.{in_order, Declares}
 use Rattle.typing_rules.specs.Elaborates.{Elaborates, of_number, of_text, of_truth, of_nil, of_name, of_dyn_sum, of_arithmetic, of_comparison, of_equality, of_neg, of_not, of_both, of_either, of_dyn_read, of_read, of_cast, of_new, ElaboratesAt, used_at, ElaboratesPair, used_pair, ElaborateAll, of_none, of_more}
 use Rattle.typing_rules.specs.Members.{Names, Numbered, class_at, field_type, member_type, field_count, expr_count}
 use Rattle.typing_rules.specs.Operators.{Sort, arithmetic, comparison, equality, sort_of}
-use Rattle.typing_rules.specs.SourcePlaces.{place_of}
+use Rattle.script_rules.specs.SourcePlaces.{place_of}
 use Rattle.typing_rules.specs.TypingFaults.{at, TypingFault, in_integers, in_left, in_right, in_neg, in_not, in_both, in_either, FaultAt, in_used, at_used, PairFault, in_first, in_second, at_first, at_second, in_object, no_field, in_cast, at_cast, in_argument, arity, at_argument, FaultIn, in_head, in_tail, UseFault}
 use Rattle.script_casts.specs.declared.known.Known.{Known}
 use Rattle.script_casts.specs.declared.known.KnownClass.{KnownClass}

@@ -24,7 +24,7 @@ use Rattle.mono_tree.specs.TypedPrograms.{type_of_name}
 use Rattle.typing_rules.specs.Elaborates.{IsSiteFor, Uses, Elaborates, of_number, of_text, of_truth, of_nil, of_name, of_dyn_sum, of_arithmetic, of_comparison, of_equality, of_neg, of_not, of_both, of_either, of_dyn_read, of_read, of_cast, of_new, ElaboratesAt, used_at, ElaboratesPair, used_pair, ElaborateAll, of_none, of_more}
 use Rattle.typing_rules.specs.Members.{Names, Numbered, class_at, field_type}
 use Rattle.typing_rules.specs.Operators.{arithmetic, comparison, equality, sort_of}
-use Rattle.typing_rules.specs.SourcePlaces.{place_of}
+use Rattle.script_rules.specs.SourcePlaces.{place_of}
 use Rattle.typing_rules.specs.TypingFaults.{at}
 use Rattle.script_casts.specs.declared.known.Known.{Known}
 use Rattle.script_casts.specs.declared.known.KnownClass.{KnownClass}

@@ -18,7 +18,7 @@ use Rattle.mono_tree.specs.Precise.{Precise}
 use Rattle.mono_tree.specs.TypedPrograms.{type_of_name}
 use Rattle.typing_rules.specs.ElaboratesLines.{ElaboratesLine, passes, stands_alone, assigns, prints, writes_dyn, writes_static, writes_field, branches, loops, ElaboratesGuarded, guards, ElaboratesBranches, no_branch, next_branch, ElaboratesElse, no_last, at_last, ElaboratesBlock, ends, goes_on}
 use Rattle.typing_rules.specs.Members.{Names, field_type, member_type}
-use Rattle.typing_rules.specs.SourcePlaces.{place_of}
+use Rattle.script_rules.specs.SourcePlaces.{place_of}
 use Rattle.typing_rules.specs.TypingFaults.{at}
 use Rattle.typing_rules.specs.LineFaults.{LineFault, in_alone, in_value, at_value, in_print, in_receiver, in_written, no_target, at_written, in_branches, in_else, in_loop, GuardedFault, in_condition, in_guarded, BranchFault, in_branch, in_later_branch, BlockFault, in_this, in_later}
 use Rattle.script_casts.specs.declared.blocks.Body.{Body}

@@ -15,7 +15,7 @@ use Rattle.mono_syntax.specs.TyView.{fields}
 use Rattle.mono_tree.specs.Meet.{AreApart}
 use Rattle.typing_rules.specs.Elaborates.{Uses, UsesAll, uses_none, uses_more}
 use Rattle.typing_rules.specs.Members.{field_count, expr_count}
-use Rattle.typing_rules.specs.SourcePlaces.{place_of}
+use Rattle.script_rules.specs.SourcePlaces.{place_of}
 use Rattle.typing_rules.specs.TypingFaults.{at, UseFault, here, later}
 use Rattle.script_casts.specs.declared.objects.Arguments.{Arguments}
 use Rattle.script_casts.specs.declared.sites.Cast.{Cast}

@@ -11,3 +11,7 @@ pub mod Occurrences
 pub mod NameRules
 pub mod NameFaults
 pub mod ScopeFaults
+pub mod SourcePlaces
+pub mod SourceCasts
+pub mod WellTyped
+pub mod CastExample

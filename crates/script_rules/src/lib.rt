@@ -3,6 +3,7 @@
 //! type of a name where it stands: the phases that find names and types cite them.
 #![tactic(auto)]
 
+pub mod laws;
 mod occurrence;
 
 pub use occurrence::{Occurrence, Role};

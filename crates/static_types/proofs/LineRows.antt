@@ -12,7 +12,7 @@ use Rattle.static_types.specs.Lines.{line_parts, LineRule, TypedLine, line, bran
 use Rattle.static_types.specs.LineFaults.{LineRuleFault, LineFault, in_part, no_rule, at_use, in_branches, in_else, in_loop, GuardedFault, in_condition, at_condition, in_guarded, BranchFault, in_branch, in_later_branch, BlockFault, in_this, in_rest}
 use Rattle.static_types.specs.Names.{Names}
 use Rattle.static_types.specs.Rules.{at}
-use Rattle.static_types.specs.SourcePlaces.{place_of}
+use Rattle.script_rules.specs.SourcePlaces.{place_of}
 use Rattle.static_types.specs.Types.{AllConsistent, Types, TypeAll}
 use Rattle.static_types.proofs.TypeLaws.{part_row}
 

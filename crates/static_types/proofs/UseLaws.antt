@@ -7,7 +7,7 @@ use Rattle.mono_syntax.specs.Ty.{Ty}
 use Rattle.mono_tree.specs.Meet.{AreApart, Consistent}
 use Rattle.static_types.specs.Faults.{UseFault, here, later}
 use Rattle.static_types.specs.Rules.{at}
-use Rattle.static_types.specs.SourcePlaces.{place_of}
+use Rattle.script_rules.specs.SourcePlaces.{place_of}
 use Rattle.static_types.specs.Types.{AllConsistent}
 
 pub apart_or_consistent : (s t : Ty) → Consistent s t → AreApart s t → ⊥

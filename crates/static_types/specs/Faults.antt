@@ -10,7 +10,7 @@ use Rattle.static_types.specs.Names.{Names}
 use Rattle.static_types.specs.Parts.{parts}
 use Rattle.static_types.specs.declared.rule.Rule.{Rule}
 use Rattle.static_types.specs.Rules.{RuleOf, RuleFault, at}
-use Rattle.static_types.specs.SourcePlaces.{place_of}
+use Rattle.script_rules.specs.SourcePlaces.{place_of}
 use Rattle.static_types.specs.Types.{Types, TypeAll}
 
 -- of expressions of these types, each used at a type, the first that can't be is refused where it stands

@@ -1,4 +1,3 @@
-pub mod SourcePlaces
 pub mod Names
 pub mod Members
 pub mod Operators

@@ -12,7 +12,7 @@ use Rattle.static_types.specs.Faults.{Fault, PartFault, UseFault}
 use Rattle.static_types.specs.Lines.{line_parts, LineRule, TypedLine, TypedGuarded, TypedBranches}
 use Rattle.static_types.specs.Names.{Names}
 use Rattle.static_types.specs.Rules.{member_of, CalleeFault, at}
-use Rattle.static_types.specs.SourcePlaces.{place_of}
+use Rattle.script_rules.specs.SourcePlaces.{place_of}
 use Rattle.static_types.specs.Types.{Types, TypeAll}
 
 -- a name that is started before, or a callee that can't be called so

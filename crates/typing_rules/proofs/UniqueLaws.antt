@@ -22,7 +22,7 @@ use Rattle.script_rules.specs.Writes.{Writes, Declares, in_order}
 use Rattle.typing_rules.specs.Elaborates.{IsSiteFor, IsPlainSite, Uses, as_it_is, with_cast, UsesAll, uses_none, uses_more, Elaborates, of_number, of_text, of_truth, of_nil, of_name, of_dyn_sum, of_arithmetic, of_comparison, of_equality, of_neg, of_not, of_both, of_either, of_dyn_read, of_read, of_cast, of_new, ElaboratesAt, used_at, ElaboratesPair, used_pair, ElaborateAll, of_none, of_more}
 use Rattle.typing_rules.specs.Members.{Names, Numbered, class_at, field_type}
 use Rattle.typing_rules.specs.Operators.{Sort, arithmetic, comparison, equality, sort_of}
-use Rattle.typing_rules.specs.SourcePlaces.{place_of}
+use Rattle.script_rules.specs.SourcePlaces.{place_of}
 use Rattle.typing_rules.proofs.Writing.{one_type, one_declared}
 
 -- ---- places in a list

@@ -28,7 +28,7 @@ use Rattle.typing_rules.specs.Elaborates.{IsSiteFor, IsPlainSite, Uses, Elaborat
 use Rattle.typing_rules.specs.ElaboratesLines.{ElaboratesLine, passes, stands_alone, assigns, prints, writes_dyn, writes_static, writes_field, branches, loops, ElaboratesGuarded, guards, ElaboratesBranches, no_branch, next_branch, ElaboratesElse, no_last, at_last, ElaboratesBlock, ends, goes_on}
 use Rattle.typing_rules.specs.HasCasts.{AreClasses, AreNames, IsMainNames, HasCasts}
 use Rattle.typing_rules.specs.Members.{Names, field_type}
-use Rattle.typing_rules.specs.SourcePlaces.{place_of}
+use Rattle.script_rules.specs.SourcePlaces.{place_of}
 use Rattle.typing_rules.proofs.UniqueLaws.{obj_fields, dyn_obj, one_site, one_use, behind, one, one_at, one_all}
 use Rattle.typing_rules.proofs.Writing.{one_declared, one_any}
 

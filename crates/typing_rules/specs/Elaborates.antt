@@ -19,7 +19,7 @@ use Rattle.mono_tree.specs.TypedPrograms.{type_of_name}
 use Rattle.script_rules.specs.Writes.{Writes, Declares, in_order}
 use Rattle.typing_rules.specs.Members.{Names, Numbered, class_at, field_type}
 use Rattle.typing_rules.specs.Operators.{arithmetic, comparison, equality, sort_of}
-use Rattle.typing_rules.specs.SourcePlaces.{place_of}
+use Rattle.script_rules.specs.SourcePlaces.{place_of}
 
 -- x is a site of this kind at this place; s and t are its source and target
 pub record IsSiteFor (types : List Ty) (p : Place) (k : Kind) (s t : Ty) (x : Site) : Type 0 where

@@ -16,7 +16,7 @@ use Rattle.mono_tree.specs.Static.{is_static}
 use Rattle.mono_tree.specs.TypedPrograms.{type_of_name}
 use Rattle.typing_rules.specs.Elaborates.{IsSiteFor, IsPlainSite, Uses, Elaborates, ElaboratesAt, ElaborateAll}
 use Rattle.typing_rules.specs.Members.{Names, field_type}
-use Rattle.typing_rules.specs.SourcePlaces.{place_of}
+use Rattle.script_rules.specs.SourcePlaces.{place_of}
 
 mutual
   -- Behind the sites ss, the statement becomes one with casts, and the sites are us.

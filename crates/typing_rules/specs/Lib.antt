@@ -1,4 +1,3 @@
-pub mod SourcePlaces
 pub mod Members
 pub mod Operators
 pub mod Elaborates

@@ -16,7 +16,7 @@ use Rattle.mono_tree.specs.TypedPrograms.{type_of_name}
 use Rattle.typing_rules.specs.Elaborates.{Elaborates, ElaboratesAt}
 use Rattle.typing_rules.specs.ElaboratesLines.{ElaboratesLine, ElaboratesGuarded, ElaboratesBranches}
 use Rattle.typing_rules.specs.Members.{Names, member_type}
-use Rattle.typing_rules.specs.SourcePlaces.{place_of}
+use Rattle.script_rules.specs.SourcePlaces.{place_of}
 use Rattle.typing_rules.specs.TypingFaults.{at, TypingFault, FaultAt, FaultIn}
 
 mutual

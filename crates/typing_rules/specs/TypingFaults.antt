@@ -16,7 +16,7 @@ use Rattle.script_rules.specs.Writes.{Writes, Declares}
 use Rattle.typing_rules.specs.Members.{Names, Numbered, class_at, member_type, field_count, expr_count}
 use Rattle.typing_rules.specs.Elaborates.{Elaborates, ElaborateAll}
 use Rattle.typing_rules.specs.Operators.{equality, sort_of}
-use Rattle.typing_rules.specs.SourcePlaces.{place_of}
+use Rattle.script_rules.specs.SourcePlaces.{place_of}
 
 abbrev pub at : Place → Reason → Refusal
 at p r = record { place = p; reason = r }

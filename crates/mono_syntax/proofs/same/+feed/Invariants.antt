@@ -1,4 +1,4 @@
-use Rattle.std.proofs.Common.{◌≡◌, ◌+◌, ◌*◌, ◌≤◌, length, drop}
+use Rattle.std.proofs.Common.{◌≡◌, ◌+◌, ◌*◌, drop}
 use Rattle.std.specs.Prelude.{fold}
 use Rattle.mono_syntax.specs.Ty.{ty_size, tys_size, fields_size}
 use Rattle.mono_syntax.specs.TyView.{tys, fields}

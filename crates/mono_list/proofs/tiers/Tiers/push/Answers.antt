@@ -6,5 +6,5 @@ use Rattle.mono_list.proofs.tiers.Tiers.push.Goals as goal
 pub push_reserved-requires : goal.push_reserved-requires
 push_reserved-requires g c =
     let e : size c.args.self.now ≡ length c.self.inside.items.items =
-        ap size (sym c.self.view_is) ∙ size-tiered c.self.inside.from (reverse c.self.inside.starts.items) c.self.inside.items.items c.self.invariant.0 c.self.invariant.1 in
+    ap size (sym c.self.view_is) ∙ size-tiered c.self.inside.from (reverse c.self.inside.starts.items) c.self.inside.items.items c.self.invariant.0 c.self.invariant.1 in
     omega (arith, c.requires, e, c.self.invariant.2, c.self.inside.items.ok)

@@ -1,6 +1,6 @@
-use Rattle.std.proofs.Common.{◌≡◌, ◌+◌, ◌-◌, ℕ, ap, sym, ◌∙◌, length, reverse, take, List, slice_set, arith}
+use Rattle.std.proofs.Common.{◌≡◌, ◌+◌, ◌-◌, ℕ, ap, sym, reverse, List, slice_set, arith}
 use Rattle.mono_list.proofs.Sizes.{set-tiered}
-use Rattle.mono_list.specs.Tiered.{Tiered, tiered}
+use Rattle.mono_list.specs.Tiered.{Tiered}
 use Rattle.mono_list.proofs.tiers.Tiers.put.Goals as goal
 
 pub returns-then-at-count : goal.returns-then-at-count

@@ -2,7 +2,8 @@
 use Rattle.mono_syntax.specs.declared.leaf.Place.{Place}
 use Rattle.mono_syntax.specs.Expr.{Expr, local, number, text, truth, nil, neg, negation, binary, both, either, read, call, cast, join}
 
--- the place of a name, a literal, a prefix operator, a cast or a join is its own; every other expression stands where its first part does
+-- a name, a literal, a prefix operator, a cast and a join have a place of their own; every other expression stands where its first part
+-- does
 abbrev pub place_of : Expr → Place
 place_of (local w) = w.place
 place_of (number p k) = p
