@@ -1,5 +1,6 @@
 -- What is too large in a script: a type, a class, a list of parameters or arguments, or a block.
 use Rattle.std.specs.Prelude.{◌≡◌, ◌<◌, Some, Contains, length, slice_get, []}
+use Rattle.mono_syntax.specs.Limits.{most_fields, most_parameters, most_arguments, most_names}
 use Rattle.mono_syntax.specs.declared.leaf.Place.{Place}
 use Rattle.mono_syntax.specs.declared.leaf.Word.{Word}
 use Rattle.mono_syntax.specs.declared.refusal.Reason.{Reason}
@@ -14,23 +15,32 @@ use Rattle.script_rules.specs.Writes.{Writes, IsClassType, IsFunctionType}
 use Rattle.mono_tree.specs.Sizes.{IsTooLarge}
 use Rattle.script_rules.specs.SourceParts.{Counted, place_of, callables, annotation, arguments, parts_of, block_names}
 
--- a fault of size: where it stands, and what is too large
+-- a fault of size: where it stands, and what is over its limit
 pub data SizeFault (s : Script) : Place → Reason → Type 0 where
   -- the type of a class, at its name
-  large_class : {p : Place} (d : ClassDef) (t : Ty) → Contains (class_list s) d → IsClassType (class_list s) d t → IsTooLarge t → p ≡ d.name.place → SizeFault s p TypeTooLarge
+  large_class : {p : Place} (d : ClassDef) (t : Ty) → Contains (class_list s) d → IsClassType (class_list s) d t → IsTooLarge t
+      → p ≡ d.name.place → SizeFault s p TypeTooLarge
   -- the declared type of a function, at its name
-  large_function : {p : Place} (d : FuncDef) (t : Ty) → Contains (function_list s) d → IsFunctionType (class_list s) d t → IsTooLarge t → p ≡ d.name.place → SizeFault s p TypeTooLarge
+  large_function : {p : Place} (d : FuncDef) (t : Ty) → Contains (function_list s) d → IsFunctionType (class_list s) d t → IsTooLarge t
+      → p ≡ d.name.place → SizeFault s p TypeTooLarge
   -- the type that an annotation writes, at its first token
-  large_type : {p : Place} (a : Ann) (t : Ty) → Contains (parts_of s.items) (annotation a) → Writes (class_list s) a t → IsTooLarge t → p ≡ place_of a → SizeFault s p TypeTooLarge
-  -- a class has over 64 fields
-  many_fields : {p : Place} (d : ClassDef) → Contains (class_list s) d → 64 < length d.fields → p ≡ d.name.place → SizeFault s p TooManyFields
-  -- a function has over 8 parameters
-  many_parameters : {p : Place} (d : FuncDef) → Contains (function_list s) d → 8 < length d.params → p ≡ d.name.place → SizeFault s p TooManyParameters
-  -- a Callable has over 8 parameters, at its word
-  wide_callable : {p : Place} (a : Ann) (c : Counted) → Contains (parts_of s.items) (annotation a) → Contains (callables a) c → 8 < c.count → p ≡ c.place → SizeFault s p TooManyParameters
-  -- a call, print or start has over 64 arguments, at its opening bracket
-  many_arguments : {p : Place} (c : Counted) → Contains (parts_of s.items) (arguments c) → 64 < c.count → p ≡ c.place → SizeFault s p TooManyArguments
-  -- a function's block has over 4,096 names, at the next one
-  crowded_function : {p : Place} (d : FuncDef) (w : Word) → Contains (function_list s) d → slice_get (block_names d.params d.body) 4096 ≡ Some w → p ≡ w.place → SizeFault s p TooManyNames
-  -- the main block has
-  crowded_main : {p : Place} (w : Word) → slice_get (block_names [] (main_block s)) 4096 ≡ Some w → p ≡ w.place → SizeFault s p TooManyNames
+  large_type : {p : Place} (a : Ann) (t : Ty) → Contains (parts_of s.items) (annotation a) → Writes (class_list s) a t → IsTooLarge t
+      → p ≡ place_of a → SizeFault s p TypeTooLarge
+  -- the fields of a class, at its name
+  many_fields : {p : Place} (d : ClassDef) → Contains (class_list s) d → most_fields < length d.fields → p ≡ d.name.place
+      → SizeFault s p TooManyFields
+  -- the parameters of a function, at its name
+  many_parameters : {p : Place} (d : FuncDef) → Contains (function_list s) d → most_parameters < length d.params → p ≡ d.name.place
+      → SizeFault s p TooManyParameters
+  -- those of a Callable, at its word
+  wide_callable : {p : Place} (a : Ann) (c : Counted) → Contains (parts_of s.items) (annotation a) → Contains (callables a) c
+      → most_parameters < c.count → p ≡ c.place → SizeFault s p TooManyParameters
+  -- the arguments of a call, a print or a start, at the opening bracket
+  many_arguments : {p : Place} (c : Counted) → Contains (parts_of s.items) (arguments c) → most_arguments < c.count → p ≡ c.place
+      → SizeFault s p TooManyArguments
+  -- the names of a function's block, at the first over the limit
+  crowded_function : {p : Place} (d : FuncDef) (w : Word) → Contains (function_list s) d
+      → slice_get (block_names d.params d.body) most_names ≡ Some w → p ≡ w.place → SizeFault s p TooManyNames
+  -- those of the main block
+  crowded_main : {p : Place} (w : Word) → slice_get (block_names [] (main_block s)) most_names ≡ Some w → p ≡ w.place
+      → SizeFault s p TooManyNames

@@ -116,7 +116,8 @@ mutual
     of_nil : {q : Place} → IsBuilt s p (expr.nil q) cast.nil
     of_name : {w : Word} {k : ℕ} → IsSiteAt p k w.place kind.Name → IsBuilt s p (expr.local w) (cast.local k w.text)
     of_function : {w : Word} {g : ℕ} → IsFunctionAt s g w.text → IsBuilt s p (expr.local w) (cast.function g)
-    of_neg : {q : Place} {e : Expr} {c : CastExpr} {a : ℕ} → Becomes s p e c → IsSiteAt p a q kind.Arithmetic → IsBuilt s p (expr.neg q e) (cast.neg a c)
+    of_neg : {q : Place} {e : Expr} {c : CastExpr} {a : ℕ} → Becomes s p e c → IsSiteAt p a q kind.Arithmetic
+        → IsBuilt s p (expr.neg q e) (cast.neg a c)
     of_not : {q : Place} {e : Expr} {c : CastExpr} → Becomes s p e c → IsBuilt s p (expr.negation q e) (cast.negation c)
     of_binary : {o : Op} {q : Place} {e f : Expr} {c d : CastExpr} {k a : Option ℕ} → Becomes s p e c → Becomes s p f d
         → IsAnySiteAt p k q kind.Operator → IsAnySiteAt p a q kind.Arithmetic → IsBuilt s p (expr.binary o q e f) (cast.binary o k a c d)
@@ -126,7 +127,8 @@ mutual
         → IsBuilt s p (expr.read e w) (cast.read m c w.text)
     of_new : {q : Place} {w : Word} {es : Exprs} {c : ℕ} {cs : CastExprs} → IsClassAt s c w.text → IsFewArguments es → BecomeAll s p es cs
         → IsBuilt s p (expr.call q (expr.local w) es) (cast.make c cs)
-    of_call : {q : Place} {f : Expr} {es : Exprs} {c : CastExpr} {k : Option ℕ} {args : Args} → Becomes s p f c → IsFewArguments es → BecomeArguments s p es args
+    of_call : {q : Place} {f : Expr} {es : Exprs} {c : CastExpr} {k : Option ℕ} {args : Args} → Becomes s p f c → IsFewArguments es
+        → BecomeArguments s p es args
         → IsAnySiteAt p k q kind.Call → IsBuilt s p (expr.call q f es) (cast.call k c args)
     of_cast : {q : Place} {a : Ann} {e : Expr} {c : CastExpr} {k : ℕ} → IsBuilt s p e c → IsCastRound p k e c → WritesTarget s p k a
         → IsBuilt s p (expr.cast q a e) (cast.fit k c)
@@ -140,7 +142,8 @@ mutual
   -- each argument with its site, where one stands
   pub data BecomeArguments (s : Script) (p : CastScript) : Exprs → Args → Type 0 where
     arguments_none : BecomeArguments s p expr.no_exprs cast.no_args
-    arguments_more : {e : Expr} {es : Exprs} {c : CastExpr} {k : Option ℕ} {rest : Args} → Becomes s p e c → IsAnySiteAt p k (place_of e) kind.Argument
+    arguments_more : {e : Expr} {es : Exprs} {c : CastExpr} {k : Option ℕ} {rest : Args} → Becomes s p e c
+        → IsAnySiteAt p k (place_of e) kind.Argument
         → BecomeArguments s p es rest → BecomeArguments s p (expr.more_exprs e es) (cast.more_args k c rest)
 
 -- ---- statements
@@ -153,15 +156,20 @@ returned q (Some e) = e
 mutual
   pub data BecomesStatement (s : Script) (p : CastScript) : Stmt → CastStmt → Type 0 where
     passes : BecomesStatement s p stmt.pass cast_stmt.pass
-    returns : {q : Place} {e : Option Expr} {c : CastExpr} {k : Option ℕ} → Becomes s p (returned q e) c → IsAnySiteAt p k (place_of (returned q e)) kind.Return
+    returns : {q : Place} {e : Option Expr} {c : CastExpr} {k : Option ℕ} → Becomes s p (returned q e) c
+        → IsAnySiteAt p k (place_of (returned q e)) kind.Return
         → BecomesStatement s p (stmt.give q e) (cast_stmt.give k c)
-    prints : {q : Place} {es : Exprs} {cs : CastExprs} → IsFewArguments es → BecomeAll s p es cs → BecomesStatement s p (stmt.print q es) (cast_stmt.print cs)
-    assigns : {w : Word} {a : Option Ann} {e : Expr} {c : CastExpr} → Becomes s p e c → BecomesStatement s p (stmt.assign w a e) (cast_stmt.assign w.text c)
+    prints : {q : Place} {es : Exprs} {cs : CastExprs} → IsFewArguments es → BecomeAll s p es cs
+        → BecomesStatement s p (stmt.print q es) (cast_stmt.print cs)
+    assigns : {w : Word} {a : Option Ann} {e : Expr} {c : CastExpr} → Becomes s p e c
+        → BecomesStatement s p (stmt.assign w a e) (cast_stmt.assign w.text c)
     writes : {o e : Expr} {w : Word} {t : Ty} {c d : CastExpr} {m k : Option ℕ} → Becomes s p o c → Becomes s p e d
         → IsAnySiteAt p m w.place kind.Member → IsAnySiteAt p k (place_of e) kind.Write
         → BecomesStatement s p (stmt.write o w e) (cast_stmt.write m k t c w.text d)
-    starts : {w : Word} {q : Place} {f : Expr} {es : Exprs} {c : CastExpr} {k : Option ℕ} {args : Args} → Becomes s p f c → IsFewArguments es
-        → BecomeArguments s p es args → IsAnySiteAt p k q kind.Call → BecomesStatement s p (stmt.start w q f es) (cast_stmt.start w.text k c args)
+    starts : {w : Word} {q : Place} {f : Expr} {es : Exprs} {c : CastExpr} {k : Option ℕ} {args : Args} → Becomes s p f c
+        → IsFewArguments es
+        → BecomeArguments s p es args → IsAnySiteAt p k q kind.Call
+        → BecomesStatement s p (stmt.start w q f es) (cast_stmt.start w.text k c args)
     stands_alone : {e : Expr} {c : CastExpr} → Becomes s p e c → BecomesStatement s p (stmt.plain e) (cast_stmt.plain c)
     branches : {bs : Branches} {last : Else} {cs : CastBranches} {d : CastElse} → BecomeBranches s p bs cs → BecomesElse s p last d
         → BecomesStatement s p (stmt.if_any bs last) (cast_stmt.if_any cs d)
@@ -175,7 +183,8 @@ mutual
 
   pub data BecomeBranches (s : Script) (p : CastScript) : Branches → CastBranches → Type 0 where
     no_branch : BecomeBranches s p stmt.no_branches cast_stmt.no_branches
-    next_branch : {e : Expr} {body : Block} {bs : Branches} {c : CastExpr} {d : CastBlock} {cs : CastBranches} → Becomes s p e c → BecomesBlock s p body d
+    next_branch : {e : Expr} {body : Block} {bs : Branches} {c : CastExpr} {d : CastBlock} {cs : CastBranches} → Becomes s p e c
+        → BecomesBlock s p body d
         → BecomeBranches s p bs cs → BecomeBranches s p (stmt.more_branches e body bs) (cast_stmt.more_branches c d cs)
 
   pub data BecomesElse (s : Script) (p : CastScript) : Else → CastElse → Type 0 where
