@@ -5,16 +5,14 @@ ghost use Rattle.mono_tree.specs.CastScripts.{fields_of, result_of};
 ghost use Rattle.cast_machine.specs.Heap.{size, heap_size};
 ghost use Rattle.cast_machine.specs.Rows.{goes, puts, leaving};
 ghost use Rattle.cast_machine.specs.Calls.{take_args, named, cells_of, new_object, new_args, new_at, count_of, arg_items, call_test, call_row, unbound, bind, called, enter_at, fall, begin_at, value_in, finished, join_of, all_finished, leave_to, leave_with, leave};
-ghost use Rattle.calculus_data.specs.Entries.{entering, call_of, function_call, arg_item};
+ghost use Rattle.calculus_data.specs.computed.Entries.{entering, call_of, function_call, arg_item};
 
 use calculus_data::{Heap, blames, copy_val, fails, goes, members_of, push_leaving, puts, size};
 use cast_machine::{Cell, Change, End, Frame, NameMap, Object, Outcome, State, Thread, Work};
 use mono_list::{Shared, Stack};
-use mono_syntax::{CastFunction, CastScript, Field, Name, NamedType, Ty, TyKind, Val};
+use mono_syntax::{CastFunction, CastScript, Field, Name, NamedType, Ty, TyKind, Val, MOST_THREADS};
 use sqlite_items::Items;
 use std::alloc::{AllocError, Global};
-
-const MOST_THREADS: usize = 256;
 
 /// Takes the n topmost values off, the lowest first, where there are as many.
 #[tactic(auto, using(calculus_data::proofs::Taken::taken))]

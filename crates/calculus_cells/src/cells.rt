@@ -2,7 +2,7 @@ ghost use Rattle.std.specs.Prelude.{◌≡◌, [], ◌∷◌, IfOk, if◌then◌
 ghost use Rattle.mono_tree.specs.CastScripts.{fields_of};
 ghost use Rattle.cast_machine.specs.Obligations.{obligations};
 ghost use Rattle.cast_machine.specs.Heap.{cell_at};
-ghost use Rattle.calculus_data.specs.Owners.{owner_site};
+ghost use Rattle.calculus_data.specs.computed.Owners.{owner_site};
 ghost use Rattle.cast_machine.specs.Fits.{fit_of};
 ghost use Rattle.cast_machine.specs.Rows.{has, does};
 ghost use Rattle.cast_machine.specs.Cells.{blaming, settle, on_cell, holds, read_cell, read_from, blamed, same_object, is_ready, strengthen, meets, obligation_cell, obligation_step, is_object, is_fitted, write_fit, write_open, write_cell, write_step};

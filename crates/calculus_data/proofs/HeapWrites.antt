@@ -5,7 +5,7 @@ use Rattle.cast_machine.specs.declared.data.Cell.{Cell}
 use Rattle.cast_machine.specs.declared.data.Object.{Object}
 use Rattle.cast_machine.specs.Maps.{update}
 use Rattle.cast_machine.specs.Heap.{Heap, size, heap_size, object_at, set_object, set_in, set_cell}
-use Rattle.calculus_data.specs.HeapPlaces.{object_place}
+use Rattle.calculus_data.specs.computed.HeapPlaces.{object_place}
 
 record Found (h : Heap) (a i k : ℕ) : Type 0 where
   at : ℕ

@@ -19,8 +19,8 @@ use Rattle.cast_machine.specs.Cells.{blamed, blaming, on_cell, settle, write_cel
 use Rattle.cast_machine.specs.Heap.{Heap, cell_at}
 use Rattle.mono_syntax.specs.declared.cast.CastScript.{CastScript}
 use Rattle.cast_machine.specs.Step.{frame_items, frames_items}
-use Rattle.calculus_data.specs.Owners.{owner_site}
-use Rattle.calculus_data.specs.Entries.{arg_item}
+use Rattle.calculus_data.specs.computed.Owners.{owner_site}
+use Rattle.calculus_data.specs.computed.Entries.{arg_item}
 use Rattle.cast_machine.specs.Calls.{named, bind, arg_items}
 use Rattle.mono_syntax.specs.TyView.{tys}
 use Rattle.calculus_data.proofs.Taken.{count_of-tys}

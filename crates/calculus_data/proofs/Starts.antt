@@ -11,7 +11,7 @@ use Rattle.cast_machine.specs.declared.data.Cell.{Cell}
 use Rattle.cast_machine.specs.Maps.{update}
 use Rattle.cast_machine.specs.Heap.{Heap, size, heap_size, object_at, set_object, set_in, set_cell}
 use Rattle.calculus_data.proofs.HeapWrites.{object_size}
-use Rattle.calculus_data.specs.HeapPlaces.{object_place, starts_from, starts_of}
+use Rattle.calculus_data.specs.computed.HeapPlaces.{object_place, starts_from, starts_of}
 
 some_cells : (n : ℕ) → 1 ≤ n → nat_eq n 0 ≡ false
 some_cells n l = split (nat_eq n 0) (λ b. b ≡ false) (λ t. absurd (let z = eqb-true n 0 t in omega (arith, z, l))) (λ f. refl)

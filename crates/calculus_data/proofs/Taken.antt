@@ -6,7 +6,7 @@ use Rattle.mono_syntax.specs.Ty.{Ty, fun}
 use Rattle.mono_syntax.specs.declared.value.Val.TheVariants as val
 use Rattle.std.specs.Prelude.{Result, Ok, Err, IfOk, if◌then◌else◌, nat_eq}
 use Rattle.cast_machine.specs.Rows.{goes, does, blames}
-use Rattle.calculus_data.specs.Entries.{call_of, function_call}
+use Rattle.calculus_data.specs.computed.Entries.{call_of, function_call}
 use Rattle.mono_syntax.specs.TyView.{tys}
 use Rattle.mono_syntax.specs.declared.value.Val.{Val}
 use Rattle.cast_machine.specs.declared.data.Cell.{Cell}

@@ -1,3 +1,4 @@
-pub mod HeapPlaces
-pub mod Entries
-pub mod Owners
+-- Computed: what code computes.
+
+-- places of objects, tested calls, and owners of obligations
+pub mod computed

@@ -1,7 +1,7 @@
 ghost use Rattle.std.specs.Prelude.{◌≡◌, [], ◌∷◌, ◌++◌, ◌-◌, ◌<◌, ◌^◌, min, IfOk, OnOk, slice_get};
 ghost use Rattle.std.specs.Option.{option_copied};
 ghost use Rattle.cast_machine.specs.Heap.{Heap, size, heap_size, object_at, cell_at, set_cell};
-ghost use Rattle.calculus_data.specs.HeapPlaces.{object_place, starts_of};
+ghost use Rattle.calculus_data.specs.computed.HeapPlaces.{object_place, starts_of};
 
 use crate::copies::copy_object;
 use cast_machine::{Cell, Object};
@@ -21,7 +21,7 @@ impl Model for Heap {
     ghost use Rattle.std.specs.Prelude.{◌≡◌, ◌^◌, ◌-◌, min, List};
     ghost use Rattle.cast_machine.specs.Heap.{heap_size};
     ghost use Rattle.cast_machine.specs.declared.data.Object.{Object};
-    ghost use Rattle.calculus_data.specs.HeapPlaces.{starts_of};
+    ghost use Rattle.calculus_data.specs.computed.HeapPlaces.{starts_of};
     ghost use Rattle.std.specs.Coded.{coded_list};
     ghost use Rattle.cast_machine.specs.contracts.data.Object as object;
 

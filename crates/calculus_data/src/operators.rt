@@ -1,20 +1,18 @@
 ghost use Rattle.std.specs.Prelude.{◌≡◌, ◌≢◌, pos, FitsSigned, ◌+ℤ◌, ◌-ℤ◌, ◌*ℤ◌};
 ghost use Rattle.std.specs.Int.{w64};
-ghost use Rattle.cast_machine.specs.Operators.{in_range, ranged, floor_quotient, floor_rest, divided, remaining, same_value, truth, on_integers, operate, negated};
+ghost use Rattle.cast_machine.specs.Operators.{in_range, ranged, floor_quotient, floor_rest, divided, remaining, same_integer, same_value, truth, counted, valued, operate, negated};
 
-use cast_machine::Operated;
-use mono_syntax::{Op, Val};
-
-const GREATEST: i64 = 140737488355327;
+use cast_machine::{Counted, Operated};
+use mono_syntax::{GREATEST_INTEGER, Op, Val};
 
 /// The integer, where it is one of the language's.
-fn ranged(n: i128) -> Operated
+fn ranged(n: i128) -> Counted
     ensures { result ≡ ranged n }
 {
-    if -(GREATEST as i128) - 1 <= n && n <= GREATEST as i128 {
-        Operated::Gives(Val::Int(n as i64))
+    if -(GREATEST_INTEGER as i128) - 1 <= n && n <= GREATEST_INTEGER as i128 {
+        Counted::Int(n as i64)
     } else {
-        Operated::Overflow
+        Counted::Overflow
     }
 }
 
@@ -31,11 +29,11 @@ fn floor_quotient(a: i128, b: i128) -> i128
     }
 }
 
-fn divided(a: i64, b: i64) -> Operated
+fn divided(a: i64, b: i64) -> Counted
     ensures { result ≡ divided a b }
 {
     if b == 0 {
-        return Operated::ZeroDivision;
+        return Counted::ZeroDivision;
     }
     ranged(floor_quotient(a as i128, b as i128))
 }
@@ -53,39 +51,39 @@ fn floor_rest(a: i128, b: i128) -> i128
     }
 }
 
-fn remaining(a: i64, b: i64) -> Operated
+fn remaining(a: i64, b: i64) -> Counted
     ensures { result ≡ remaining a b }
 {
     if b == 0 {
-        return Operated::ZeroDivision;
+        return Counted::ZeroDivision;
     }
     ranged(floor_rest(a as i128, b as i128))
 }
 
-fn sum(a: i64, b: i64) -> Operated
+fn sum(a: i64, b: i64) -> Counted
     ensures { result ≡ ranged (a +ℤ b) }
 {
     match a.checked_add(b) {
         Some(n) => ranged(n as i128),
-        None => Operated::Overflow,
+        None => Counted::Overflow,
     }
 }
 
-fn difference(a: i64, b: i64) -> Operated
+fn difference(a: i64, b: i64) -> Counted
     ensures { result ≡ ranged (a -ℤ b) }
 {
     match a.checked_sub(b) {
         Some(n) => ranged(n as i128),
-        None => Operated::Overflow,
+        None => Counted::Overflow,
     }
 }
 
-fn product(a: i64, b: i64) -> Operated
+fn product(a: i64, b: i64) -> Counted
     ensures { result ≡ ranged (a *ℤ b) }
 {
     match a.checked_mul(b) {
         Some(n) => ranged(n as i128),
-        None => Operated::Overflow,
+        None => Counted::Overflow,
     }
 }
 
@@ -110,8 +108,9 @@ pub fn same_value(v: &Val, w: &Val) -> bool
     }
 }
 
-fn on_integers(op: Op, a: i64, b: i64) -> Operated
-    ensures { result ≡ on_integers op a b }
+/// What an operator makes of two integers.
+pub fn counted(op: Op, a: i64, b: i64) -> Counted
+    ensures { result ≡ counted op a b }
 {
     match op {
         Op::Add => sum(a, b),
@@ -119,12 +118,24 @@ fn on_integers(op: Op, a: i64, b: i64) -> Operated
         Op::Mul => product(a, b),
         Op::Div => divided(a, b),
         Op::Mod => remaining(a, b),
-        Op::Lt => truth(a < b),
-        Op::Le => truth(a <= b),
-        Op::Gt => truth(b < a),
-        Op::Ge => truth(b <= a),
-        Op::Eq => truth(a == b),
-        Op::Ne => truth(a != b),
+        Op::Lt => Counted::Truth(a < b),
+        Op::Le => Counted::Truth(a <= b),
+        Op::Gt => Counted::Truth(b < a),
+        Op::Ge => Counted::Truth(b <= a),
+        Op::Eq => Counted::Truth(a == b),
+        Op::Ne => Counted::Truth(a != b),
+    }
+}
+
+/// What was counted, as a value.
+fn valued(count: Counted) -> Operated
+    ensures { result ≡ valued count }
+{
+    match count {
+        Counted::Int(n) => Operated::Gives(Val::Int(n)),
+        Counted::Truth(b) => truth(b),
+        Counted::ZeroDivision => Operated::ZeroDivision,
+        Counted::Overflow => Operated::Overflow,
     }
 }
 
@@ -136,7 +147,7 @@ pub fn operate(op: Op, v: &Val, w: &Val) -> Operated
         Op::Eq => truth(same_value(v, w)),
         Op::Ne => truth(!same_value(v, w)),
         op => match (v, w) {
-            (Val::Int(a), Val::Int(b)) => on_integers(op, *a, *b),
+            (Val::Int(a), Val::Int(b)) => valued(counted(op, *a, *b)),
             _ => Operated::Unfit,
         },
     }
@@ -147,7 +158,7 @@ pub fn negated(v: &Val) -> Operated
     ensures { result ≡ negated v.now }
 {
     match v {
-        Val::Int(a) => ranged(-(*a as i128)),
+        Val::Int(a) => valued(ranged(-(*a as i128))),
         _ => Operated::Unfit,
     }
 }

@@ -13,12 +13,9 @@ use cast_machine::{Change, End, Frame, Operated, Outcome, State, Work};
 use mono_list::{Shared, Stack};
 use mono_syntax::{
     Arg, CastBranch, CastExpr, CastExprKind, CastScript, CastStmt, CastStmtKind, Name, Op,
-    StmtList, Val,
-};
+    StmtList, Val, GREATEST_INTEGER};
 use sqlite_items::Items;
 use std::alloc::{AllocError, Global};
-
-const GREATEST: u64 = 140737488355327;
 
 /// The evaluation of the expressions is put on top, that of the first uppermost.
 fn push_evals(work: &mut Stack<Work>, exprs: &[Shared<CastExpr>]) -> Result<(), AllocError>
@@ -439,7 +436,7 @@ fn read_handle(
 fn literal(n: u64) -> Val
     ensures { result ≡ literal n }
 {
-    Val::Int(n.min(GREATEST) as i64)
+    Val::Int(n.min(GREATEST_INTEGER) as i64)
 }
 
 #[tactic(auto, using(crate::proofs::Opened::opened, calculus_data::proofs::Pushed::pushed))]

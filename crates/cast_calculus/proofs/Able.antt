@@ -15,32 +15,20 @@ use Rattle.cast_machine.specs.declared.data.Work.TheVariants as work
 use Rattle.cast_machine.specs.Heap.{Heap}
 use Rattle.cast_machine.specs.Calls.{finished, value_of, join_of, all_finished, leave, leave_with, leave_to}
 use Rattle.cast_machine.specs.Step.{Configuration, act, heeds, is_runnable, moved, placed, runnable_from, runnable_threads, step_at, step_of, taken_out, thread_step, top_step}
-use Rattle.cast_machine.specs.Safety.{no_row, is_wait}
+use Rattle.cast_machine.specs.Safety.{no_row, is_waiting, waits}
 use Rattle.cast_machine.specs.HeapTyping.{AreTyped}
 use Rattle.cast_machine.specs.Typing.{IsWellTyped, around, IsWellTypedFrame, IsWellTypedState, result_type, results_of}
 use Rattle.cast_machine.specs.WorkTyping.{LeaveUse, IsWellTypedTop}
 use Rattle.cast_machine.proofs.Progress.{not_stuck}
-use Rattle.cast_calculus.specs.Runnable.{waits, top_runs, state_runs, thread_runs, can_step, steps_from, able_threads}
-
--- ---- a running thread that is taken out had no result
-
-finished_out : (ths : List Thread) (t u : ℕ) (th : Thread) → slice_get ths t ≡ Some th → value_of th.state ≡ None → finished (slice_set ths t taken_out) u ≡ finished ths u
-finished_out [] t u th e n = none_some _ e
-finished_out (x ∷ ths) zero zero th e n = sym (ap (λ (y : Thread). value_of y.state) (some_is e) ∙ n)
-finished_out (x ∷ ths) zero (suc u) th e n = refl
-finished_out (x ∷ ths) (suc t) zero th e n = refl
-finished_out (x ∷ ths) (suc t) (suc u) th e n = finished_out ths t u th e n
-
-all_finished_out : (ths : List Thread) (t : ℕ) (th : Thread) (us : List ℕ) → slice_get ths t ≡ Some th → value_of th.state ≡ None → all_finished (slice_set ths t taken_out) us ≡ all_finished ths us
-all_finished_out ths t th [] e n = refl
-all_finished_out ths t th (u ∷ us) e n = λ i. is_some (finished_out ths t u th e n i) && all_finished_out ths t th us e n i
+use Rattle.cast_machine.proofs.Threads.{all_finished_out, finished_out}
+use Rattle.cast_calculus.specs.computed.Runnable.{top_runs, state_runs, thread_runs, can_step, steps_from, able_threads}
 
 -- ---- items
 
-by_kind : (i : Work) (rest : List Work) (ths : List Thread) (f : Frame) → ((is_wait (i ∷ rest) ≡ false) × (waits ths i f ≡ false)) ⊎ (((u : ℕ) × (i ≡ work.Join u)) ⊎ (i ≡ work.Leave))
-by_kind (work.Join u) rest ths f = inr (inl (u, refl))
-by_kind work.Leave rest ths f = inr (inr refl)
-by_kind i rest ths f = inl (refl, refl)
+by_kind : (i : Work) (ths : List Thread) (f : Frame) → (waits ths i f ≡ false) ⊎ (((u : ℕ) × (i ≡ work.Join u)) ⊎ (i ≡ work.Leave))
+by_kind (work.Join u) ths f = inr (inl (u, refl))
+by_kind work.Leave ths f = inr (inr refl)
+by_kind i ths f = inl refl
 
 is_there : {A : Type 0} (o : Option A) → (o ≡ None → ⊥) → is_some o ≡ true
 is_there None h = absurd (h refl)
@@ -96,9 +84,9 @@ module _ (p : CastScript) (pok : IsTypedProgram p) (c : Configuration) (ok : IsW
   running f below s = stepped ∙ ap (λ (st : State). is_some (thread_step p t th st out)) s
 
   other_same : (i : Work) (rest : List Work) (f : Frame) (below : List Frame) → th.state ≡ state.Running f below → f.work ≡ i ∷ rest →
-      is_wait (i ∷ rest) ≡ false → waits c.threads i f ≡ false → is_some (top_step p t th f.work f below out) ≡ top_runs c f.work f
-  other_same i rest f below s w k n =
-      let waiting_not : is_wait f.work ≡ false = ap is_wait w ∙ k in
+      waits c.threads i f ≡ false → is_some (top_step p t th f.work f below out) ≡ top_runs c f.work f
+  other_same i rest f below s w n =
+      let waiting_not : is_waiting c.threads f.work f ≡ false = ap (λ (items : List Work). is_waiting c.threads items f) w ∙ n in
       let steps : is_some (step_of p c t) ≡ true = is_there (step_of p c t) (λ none. not_stuck p pok c ok (no_row t th f below here s waiting_not none)) in
       let able : top_runs c f.work f ≡ true = ap (λ (items : List Work). top_runs c items f) w ∙ ap (λ (b : Bool). (is_some c.end && heeds i) || not b) n ∙ or_true (is_some c.end && heeds i) in
       sym (running f below s) ∙ steps ∙ sym able
@@ -125,10 +113,10 @@ module _ (p : CastScript) (pok : IsTypedProgram p) (c : Configuration) (ok : IsW
   items_same : (items : List Work) (f : Frame) (below : List Frame) → th.state ≡ state.Running f below → f.work ≡ items →
       IsWellTypedFrame p (results_of c.threads) t c.heap f → is_some (top_step p t th f.work f below out) ≡ top_runs c f.work f
   items_same [] f below s w frame = subst (λ (items : List Work). is_some (top_step p t th items f below out) ≡ top_runs c items f) (sym w) refl
-  items_same (i ∷ rest) f below s w frame = by (by_kind i rest c.threads f)
+  items_same (i ∷ rest) f below s w frame = by (by_kind i c.threads f)
     where
-      by : ((is_wait (i ∷ rest) ≡ false) × (waits c.threads i f ≡ false)) ⊎ (((u : ℕ) × (i ≡ work.Join u)) ⊎ (i ≡ work.Leave)) → is_some (top_step p t th f.work f below out) ≡ top_runs c f.work f
-      by (inl k) = other_same i rest f below s w k.0 k.1
+      by : (waits c.threads i f ≡ false) ⊎ (((u : ℕ) × (i ≡ work.Join u)) ⊎ (i ≡ work.Leave)) → is_some (top_step p t th f.work f below out) ≡ top_runs c f.work f
+      by (inl k) = other_same i rest f below s w k
       by (inr (inl j)) = join_same j.0 rest f below s (w ∙ ap (λ (x : Work). x ∷ rest) j.1)
       by (inr (inr l)) = leave_same rest f below s (w ∙ ap (λ (x : Work). x ∷ rest) l) frame
 

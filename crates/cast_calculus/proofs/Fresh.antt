@@ -1,4 +1,5 @@
 -- A thread that a row begins has taken no step.
+use Rattle.mono_syntax.specs.Limits.{most_threads}
 use Rattle.std.proofs.Common.{◌≡◌, ℕ, ◌+◌, Bool, true, false, List, [], ◌∷◌, length, Option, Some, None, nat_le, nat_eq, slice_get, refl, sym, subst}
 use Rattle.cast_machine.proofs.Heap.{on_test}
 use Rattle.mono_syntax.specs.Ty.{Ty, fun}
@@ -162,7 +163,7 @@ enter_fresh m d o f below = tt
 
 begin_fresh : (made : ℕ) (x : List ℕ) (m : Ty) (d : Option CastFunction) (o : Option (List Val × List Val)) (f : Frame) (below : List Frame) → IsFresh (begin_at made x m d o f below)
 begin_fresh made x m (Some d) (Some (args, v ∷ rest)) f below =
-    on_test (nat_le 256 made) _ _ IsFresh (λ _. tt) (λ _. refl)
+    on_test (nat_le most_threads made) _ _ IsFresh (λ _. tt) (λ _. refl)
 begin_fresh made x m d o f below = tt
 
 join_fresh : (o : Option Val) (f : Frame) (below : List Frame) → IsFresh (join_of o f below)

@@ -1,16 +1,17 @@
 -- The run in the order of a seed, turn by turn.
+use Rattle.mono_syntax.specs.Limits.{most_threads}
 use Rattle.std.proofs.Common.{◌≡◌, ℕ, ◌+◌, ◌-◌, ◌*◌, ◌<◌, true, false, List, length, Option, Some, None, is_some, slice_get, unwrap_or, refl, ap, sym, ◌∙◌, subst, arith}
 use Rattle.mono_list.proofs.Cases.{some_is, some_none}
 use Rattle.mono_syntax.specs.declared.cast.CastScript.{CastScript}
 use Rattle.mono_tree.specs.TypedPrograms.{IsTypedProgram}
 use Rattle.cast_machine.specs.Step.{Configuration, is_runnable, next_seed, pick, run_from, start_of, step_of}
-use Rattle.cast_machine.specs.Seeded.{picked_at, seeded, seeded_thread}
+use Rattle.cast_machine.specs.computed.Seeded.{picked_at, seeded, seeded_thread}
 use Rattle.cast_machine.specs.Typing.{IsWellTyped}
 use Rattle.cast_machine.proofs.Progress.{progress}
 use Rattle.cast_machine.proofs.Runs.{start_ok}
 use Rattle.cast_machine.proofs.SeededRuns.{picks_one, run_ends, seeded-suc, seeded-ended, seeded-zero}
 use Rattle.cast_machine.proofs.Threads.{pick_ok}
-use Rattle.cast_calculus.specs.Runnable.{able_threads}
+use Rattle.cast_calculus.specs.computed.Runnable.{able_threads}
 use Rattle.cast_calculus.specs.SeededEnds.{EndsBySeed}
 use Rattle.cast_calculus.proofs.Able.{able_same}
 
@@ -61,10 +62,10 @@ turn_same p n i s c h e = ap (λ (k : ℕ). seeded p k s c) (omega arith) ∙ se
 
 -- the run has come to its end
 pub ended_by : (p : CastScript) (c : Configuration) (s : ℕ) (last : Configuration) → IsTypedProgram p → c ≡ start_of p c.settings →
-    seeded p (256 * (c.settings.fuel + 2)) s c ≡ last → EndsBySeed p c s last
+    seeded p (most_threads * (c.settings.fuel + 2)) s c ≡ last → EndsBySeed p c s last
 ended_by p c s last pok starts same =
     let r = run_ends p pok c.settings s in
-    let is : last ≡ run_from p (start_of p c.settings) r.order = sym same ∙ ap (seeded p (256 * (c.settings.fuel + 2)) s) starts ∙ r.is in
+    let is : last ≡ run_from p (start_of p c.settings) r.order = sym same ∙ ap (seeded p (most_threads * (c.settings.fuel + 2)) s) starts ∙ r.is in
     subst (λ (d : Configuration). EndsBySeed p d s last) (sym starts)
     (record { order = r.order; seeded = r.seeded_run; is = is; ends = ap (λ (d : Configuration). is_some d.end) is ∙ r.ends })
 

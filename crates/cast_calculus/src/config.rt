@@ -6,7 +6,9 @@ ghost use Rattle.cast_machine.specs.Rows.{fit_top};
 ghost use Rattle.cast_machine.specs.Calls.{take_args, print_args, words_of};
 ghost use Rattle.cast_machine.specs.Step.{act, first_end, changed, frame_items, frames_items, items_of, fueled, placed, counted, heeds, moved, top_step, thread_step, step_of, taken_out, start_of, main_frame, observed};
 ghost use Rattle.cast_calculus.specs.Fueled.{IsFueled, AreFueled, IsBegun, IsFresh};
-ghost use Rattle.cast_calculus.specs.Runnable.{waits, state_runs, able_threads, can_step};
+ghost use Rattle.mono_syntax.specs.Limits.{most_items};
+ghost use Rattle.cast_machine.specs.Safety.{waits};
+ghost use Rattle.cast_calculus.specs.computed.Runnable.{state_runs, able_threads, can_step};
 
 use calculus_calls::{
     all_finished, begin, call, enter, fall, finished, join, leave, new_object, take_args, unbound,
@@ -23,7 +25,7 @@ use sqlite_items::Items;
 use std::alloc::{AllocError, Global};
 use std::marker::Model;
 
-const MOST_ITEMS: u64 = 16384;
+const MOST_ITEMS: u64 = mono_syntax::MOST_ITEMS as u64;
 
 /// A configuration of a run: the heap, the threads, the printed lines, the end once it is recorded, and the limits.
 #[derive(Drop)]
@@ -56,7 +58,7 @@ impl Model for Config {
 
 /// The items of a frame, or the limit and one where there are more.
 fn frame_items(frame: &Frame) -> u64
-    ensures { result ≡ min (frame_items frame.now) (16384 + 1) }
+    ensures { result ≡ min (frame_items frame.now) (most_items + 1) }
 {
     let most = MOST_ITEMS + 1;
     let names = (frame.names.entries().len() as u64).min(most);
@@ -69,8 +71,8 @@ fn frame_items(frame: &Frame) -> u64
 /// The items of some frames, with so many counted before them.
 #[tactic(auto, using(calculus_data::proofs::Pushed::counting))]
 fn more_items(first: u64, below: &Stack<Frame>) -> u64
-    requires { first ≤ 16384 + 1 }
-    ensures { result ≡ min (first + frames_items below.now) (16384 + 1) }
+    requires { first ≤ most_items + 1 }
+    ensures { result ≡ min (first + frames_items below.now) (most_items + 1) }
 {
     let mut items = first;
     for at in 0..below.len() as u64 {
@@ -84,7 +86,7 @@ fn more_items(first: u64, below: &Stack<Frame>) -> u64
 
 /// Whether a thread has too many items.
 fn is_deep(state: &State) -> bool
-    ensures { result ≡ nat_lt 16384 (items_of state.now) }
+    ensures { result ≡ nat_lt most_items (items_of state.now) }
 {
     match state {
         State::Running(frame, below) => MOST_ITEMS < more_items(frame_items(frame), below),

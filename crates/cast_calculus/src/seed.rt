@@ -1,13 +1,13 @@
 ghost use Rattle.std.specs.Prelude.{◌≡◌, ◌<◌, IfOk, None};
 ghost use Rattle.mono_tree.specs.TypedPrograms.{IsTypedProgram};
 ghost use Rattle.cast_machine.specs.Step.{next_seed, pick, start_of};
-ghost use Rattle.cast_machine.specs.Seeded.{seeded_thread, picked_at};
+ghost use Rattle.cast_machine.specs.computed.Seeded.{seeded_thread, picked_at};
 ghost use Rattle.cast_machine.specs.Typing.{IsWellTyped};
-ghost use Rattle.cast_calculus.specs.Runnable.{able_threads};
+ghost use Rattle.cast_calculus.specs.computed.Runnable.{able_threads};
 ghost use Rattle.cast_calculus.specs.SeededEnds.{EndsBySeed};
 
 use crate::config::Config;
-use mono_syntax::CastScript;
+use mono_syntax::{CastScript, MOST_THREADS};
 use std::alloc::{AllocError, Global};
 
 /// The seed behind a seed: the linear congruence of Knuth's MMIX, in 64 bits.
@@ -69,7 +69,7 @@ impl Config {
         requires starts { self ≡ start_of script.now self.settings }
         ensures { IfOk result (λ c. EndsBySeed script.now self seed c) }
     {
-        let turns = 256 * (self.fuel() + 2);
+        let turns = MOST_THREADS as u64 * (self.fuel() + 2);
         let mut config = self;
         let mut now = seed;
         for _turn in 0..turns {

@@ -2,7 +2,7 @@ ghost use Rattle.std.specs.Prelude.{◌≡◌, IfOk};
 ghost use Rattle.mono_tree.specs.TypedPrograms.{IsTypedProgram};
 ghost use Rattle.cast_machine.specs.Step.{is_runnable, picked, observed};
 ghost use Rattle.cast_machine.specs.Typing.{IsWellTyped};
-ghost use Rattle.cast_calculus.specs.Runnable.{can_step};
+ghost use Rattle.cast_calculus.specs.computed.Runnable.{can_step};
 
 use crate::config::Config;
 use cast_machine::Observation;

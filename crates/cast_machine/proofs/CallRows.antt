@@ -2,6 +2,7 @@
 use Rattle.std.proofs.Common.{Bool, List, None, Option, Some, [], arith, bytes_eq, false, is_some, length, nat_eq, nat_le, refl, slice_get, subst, suc, sym, true, zero, ℕ, ◌&&◌, ◌++◌, ◌+◌, ◌<◌, ◌∙◌, ◌∷◌, ◌≡◌}
 use Rattle.std.proofs.lemmas.Bool.{and_parts, false≢true}
 use Rattle.mono_list.proofs.Cases.{some_is, some_none}
+use Rattle.mono_syntax.specs.Limits.{most_threads}
 use Rattle.mono_syntax.specs.CastStmtView.{cast_block}
 use Rattle.mono_syntax.specs.Ty.{Ty, Tys, bool, dyn, fun, int, nil, obj, str}
 use Rattle.mono_syntax.specs.declared.cast.CastScript.{CastScript}
@@ -16,7 +17,7 @@ use Rattle.mono_tree.specs.Precision.{precise, precise_all}
 use Rattle.mono_tree.specs.TypedPrograms.{CallUse, EndUse, IsTypedProgram, Scope, scope_of, type_of_name}
 use Rattle.cast_machine.proofs.Blames.{has_free}
 use Rattle.cast_machine.proofs.Fitting.{has_lower}
-use Rattle.cast_machine.proofs.Grows.{MoreResults, extends_refl, handles_grow, stack_grows, started_grow}
+use Rattle.cast_machine.proofs.Grows.{MoreResults, extends_refl, handles_grow, stack_grows, started_grow, values_of_script}
 use Rattle.cast_machine.proofs.Heap.{lookup-update, lookup-update_other, nat_eq-refl, nat_eq-same, on_test}
 use Rattle.cast_machine.proofs.Obligations.{HereOk, MoveOk, WaitOk, blames_ok, fails_ok, move_wait, work_ok, work_top}
 use Rattle.cast_machine.proofs.ValueLists.{ArgsOk, all_count, args_sites, args_types, args_work, bind_ok, dyn_args, dyn_sites, sites_args, split_values, take_split, tys_same, unbound_env, unbound_there}
@@ -139,7 +140,7 @@ call_count p k ks (fun ps r) args T i = args_sites p ks args ps i.1
 call_count p k ks dyn args T i = dyn_sites p ks args i.1
 call_count p k ks F args T i = absurd i
 
-below_limit : (n : ℕ) → nat_le 256 n ≡ false → n < 256
+below_limit : (n : ℕ) → nat_le most_threads n ≡ false → n < most_threads
 below_limit n e = grind arith
 
 module _ (p : CastScript) (pok : IsTypedProgram p) (h : Heap) (threads : List Thread) (s : Scope) (rs : List Ty) (me : ℕ) (R : Ty) (f : Frame) (below : List Frame) (ok : HereOk p h threads s rs me R f below) where
@@ -167,12 +168,12 @@ module _ (p : CastScript) (pok : IsTypedProgram p) (h : Heap) (threads : List Th
     fun_call values under g ms r i dyn x fit =
         on_test (nat_eq (count_of ms) (length ks)) _ _ Ok
         (λ t. let e = nat_eq-same (count_of ms) (length ks) t in goes_in g ms r i (dyn_args p ks args ms x.1 (e ∙ sym many)) e (subst (λ U. IsAsPrecise r U) (sym x.2) refl))
-        (λ t. blames_ok p h threads s rs me R f below ok k (has_free p k kinds.Call x.0 refl))
+        (λ t. blames_ok p h threads s rs me R f below ok k (has_free p k kinds.Call x.0 refl refl))
     fun_call values under g ms r i F' x fit = absurd x
 
     no_call : (values under : List Val) (v : Val) (F' : Ty) → CallUse p k ks F' args T → ((ps : Tys) (u : Ty) → HasType h v (fun ps u) → ⊥) → HasType h v F' → Ok (blames k)
     no_call values under v (fun ps u) x none fit = absurd (none ps u fit)
-    no_call values under v dyn x none fit = blames_ok p h threads s rs me R f below ok k (has_free p k kinds.Call x.0 refl)
+    no_call values under v dyn x none fit = blames_ok p h threads s rs me R f below ok k (has_free p k kinds.Call x.0 refl refl)
     no_call values under v F' x none fit = absurd x
 
     call_value : (values under : List Val) (v : Val) → IsTyped p h v F → Ok (call_test k ks enter (Some (values, v ∷ under)) f below)
@@ -203,6 +204,7 @@ module _ (p : CastScript) (pok : IsTypedProgram p) (h : Heap) (threads : List Th
           ),
         );
         begun = tt;
+        said = tt;
         ends = tt;
         lives = λ z. tt;
       }))
@@ -221,7 +223,7 @@ module _ (p : CastScript) (pok : IsTypedProgram p) (h : Heap) (threads : List Th
       let some_less : 0 < length rs = omega (arith, ok.mine) in
       subst (λ o. Ok (begin_at made x M o (take_args n f.values []) f below)) (sym (e.function).at)
       (subst (λ o. Ok (begin_at made x M (Some (e.function).function) o f below)) (sym y.taken)
-      (on_test (nat_le 256 made) _ _ Ok
+      (on_test (nat_le most_threads made) _ _ Ok
       (λ full. fails_ok p h threads s rs me R f below ok ends.ThreadLimit tt)
       (λ room. record {
         grows = extends_refl h;
@@ -241,7 +243,8 @@ module _ (p : CastScript) (pok : IsTypedProgram p) (h : Heap) (threads : List Th
           },
           stack_grows p rs rs' me grow (extends_refl h) f.asked below R ok.stack,
         );
-        begun = ((called_ok p pok h rs' (length rs) g M e.function y.values e.arguments e.fit y.values_ok, (some_less, precise_refl r)), tt, subst (λ k. k < 256) ok.made (below_limit made room), refl);
+        begun = ((called_ok p pok h rs' (length rs) g M e.function y.values e.arguments e.fit y.values_ok, (some_less, precise_refl r)), tt, subst (λ k. k < most_threads) ok.made (below_limit made room), refl);
+        said = tt;
         ends = tt;
         lives = λ z. tt;
       })))
@@ -254,6 +257,7 @@ module _ (p : CastScript) (pok : IsTypedProgram p) (h : Heap) (threads : List Th
     heap = ok.heap;
     state = has_lower p h v r R has i.1;
     begun = tt;
+    said = tt;
     ends = tt;
     lives = λ z. i.0;
   }
@@ -273,12 +277,13 @@ module _ (p : CastScript) (pok : IsTypedProgram p) (h : Heap) (threads : List Th
           i.1,
         );
         begun = tt;
+        said = tt;
         ends = tt;
         lives = λ z. tt;
       }
 
   leave_asked : (vs : List Val) (ts : List Ty) → AreTyped p h vs ts → (a : Option Ty) → LeaveUse a ts → IsWellTypedStack p rs me h a below R → Ok (leave_with vs a below)
-  leave_asked vs ts vok None l i = record { grows = extends_refl h; heap = ok.heap; state = tt; begun = tt; ends = tt; lives = λ z. some_none _ z }
+  leave_asked vs ts vok None l i = record { grows = extends_refl h; heap = ok.heap; state = tt; begun = tt; said = tt; ends = tt; lives = λ z. some_none _ z }
   leave_asked [] [] vok (Some r) l i = absurd l
   leave_asked (v ∷ vs) (S ∷ ts) vok (Some r) l i = leave_below v r (has_lower p h v S r vok.0 l) below i
   leave_asked [] (S ∷ ts) vok (Some r) l i = absurd vok
@@ -310,6 +315,7 @@ module _ (p : CastScript) (pok : IsTypedProgram p) (h : Heap) (threads : List Th
         heap = ok.heap;
         state = (record { scope = s; named = ok.named; types = us; values = x.below_ok; work = work_top p (around s f.asked rs me) h f.work x.below us w }, ok.stack);
         begun = tt;
+        said = values_of_script p h x.args args x.args_ok;
         ends = tt;
         lives = λ _. tt;
       })

@@ -1,10 +1,15 @@
 -- Where a cast goes, its value has the target type.
-use Rattle.std.proofs.Common.{Bool, List, None, Option, Some, [], ap, false, inl, inr, is_some, nat_lt, refl, slice_get, slice_set, subst, sym, true, unwrap_or, ℕ, ◌&&◌, ◌++◌, ◌+◌, ◌∙◌, ◌∷◌, ◌≡◌}
+use Rattle.cast_machine.specs.BlamedSites.{IsFitSite}
+use Rattle.std.proofs.Common.{◌⊎◌, Bool, List, None, Option, Some, [], ap, false, inl, inr, is_some, nat_lt, refl, slice_get, slice_set, subst, sym, true, unwrap_or, ℕ, ◌&&◌, ◌++◌, ◌+◌, ◌∙◌, ◌∷◌, ◌≡◌}
 use Rattle.std.proofs.lemmas.Bool.{false≢true}
 use Rattle.mono_list.proofs.Cases.{some_is}
+use Rattle.mono_syntax.specs.Limits.{most_items}
 use Rattle.mono_syntax.specs.Ty.{Ty}
 use Rattle.mono_syntax.specs.declared.cast.CastScript.{CastScript}
 use Rattle.mono_syntax.specs.declared.value.Val.{Val}
+use Rattle.mono_tree.specs.Sites.{IsSite}
+use Rattle.mono_syntax.specs.declared.leaf.Kind.TheVariants as kinds
+use Rattle.cast_machine.proofs.Blames.{fit_target}
 use Rattle.mono_tree.specs.CastScripts.{target_of}
 use Rattle.cast_machine.proofs.Fitting.{FitOk, fit_ok}
 use Rattle.cast_machine.proofs.Grows.{HeapOk}
@@ -60,12 +65,17 @@ cast_has : (p : CastScript) (h : Heap) → HeapOk p h → (f : Frame) (below : L
 cast_has p h ok f below k T ts vok P i e =
     subst (λ o. OutcomeHas h (λ g x. Went g (work.Cast k) f.work T 0 x) (fit_top p k o f below)) (sym e) (top_has p h ok f below k T f.values ts refl vok P i)
 
+-- a Fitted's type is the one that it is said to leave
+left_type : (p : CastScript) (k : ℕ) (U T : Ty) → IsFitSite p k U → (U ≡ T) ⊎ (IsSite p k kinds.Cast × (target_of p k ≡ Some T)) → U ≡ T
+left_type p k U T s (inl e) = e
+left_type p k U T s (inr i) = fit_target p k U T s i.0 i.1
+
 item_has : (p : CastScript) (c : Configuration) → HeapOk p c.heap → (q : Around) (item : Work) (f : Frame) (below : List Frame) (ts : List Ty) (T : Ty) (j : ℕ) → AreTyped p c.heap f.values ts → IsWellTypedTop p q c.heap [] (item ∷ f.work) f.values ts → LeavesAt p item T j → OutcomeHas c.heap (λ g x. Went g item f.work T j x) (act p c item f below)
 item_has p c ok q (work.Cast k) f below ts T j vok tok x =
     subst (λ n. OutcomeHas c.heap (λ g y. Went g (work.Cast k) f.work T n y) (fit_top p k (target_of p k) f below)) (sym x.1)
     (cast_has p c.heap ok f below k T ts vok _ tok.1 x.0)
 item_has p c ok q (work.Fitted k U n) f below ts T j vok tok x =
-    inl (refl, (tok.value, subst (λ m. slice_get f.values m ≡ Some tok.value) x.1 tok.at, subst (λ V. HasType c.heap tok.value V) x.0 (owns-all p c.heap tok.value U tok.owns).1))
+    inl (refl, (tok.value, subst (λ m. slice_get f.values m ≡ Some tok.value) x.1 tok.at, subst (λ V. HasType c.heap tok.value V) (left_type p k U T tok.site x.0) (owns-all p c.heap tok.value U tok.owns).1))
 item_has p c ok q item f below ts T j vok tok x = absurd x
 
 no_heed : (p : CastScript) (item : Work) (T : Ty) (j : ℕ) → LeavesAt p item T j → heeds item ≡ false
@@ -110,7 +120,7 @@ module _ (c : Configuration) (t : ℕ) (old : Thread) (at : slice_get c.threads 
   moved_has outcome.NoRow i = i
   moved_has outcome.Waits i = i
   moved_has (outcome.Moves d st) i =
-      on_test (nat_lt 16384 (items_of st)) _ _ (λ new. NextHas t Q (Some new))
+      on_test (nat_lt most_items (items_of st)) _ _ (λ new. NextHas t Q (Some new))
       (λ deep. placed_has change.Same (state.Failing ends.DepthLimit) (old.steps + 1) tt)
       (λ fits. placed_has d (fueled c.settings.fuel (old.steps + 1) st) (old.steps + 1) (fueled_has (heap_after d c.heap) c.settings.fuel (old.steps + 1) st i))
 

@@ -1,13 +1,13 @@
 -- The rows of expressions keep everything well typed.
 use Rattle.std.proofs.Common.{Bool, List, None, Option, Some, [], arith, false, inl, inr, int_le, int_lt, min, neg_ℤ, not, pos, refl, slice_get, subst, sym, true, ℕ, ℤ, ◌*ℤ◌, ◌++◌, ◌+ℤ◌, ◌-ℤ◌, ◌∙◌, ◌∷◌, ◌≡◌, ◌⊎◌}
 use Rattle.mono_list.proofs.Cases.{some_is}
+use Rattle.mono_syntax.specs.Limits.{greatest_integer}
 use Rattle.mono_syntax.specs.CastExpr.{CastExpr}
 use Rattle.mono_syntax.specs.CastExpr as expr
 use Rattle.mono_syntax.specs.CastExprView.{cast_exprs_list}
 use Rattle.mono_syntax.specs.Ty.{Ty, bool, dyn, fun, int, nil, obj, str}
 use Rattle.mono_syntax.specs.declared.cast.CastFunction.{CastFunction}
 use Rattle.mono_syntax.specs.declared.cast.CastScript.{CastScript}
-use Rattle.mono_syntax.specs.declared.leaf.Kind.{Kind}
 use Rattle.mono_syntax.specs.declared.leaf.Kind.TheVariants as kinds
 use Rattle.mono_syntax.specs.declared.leaf.Op.{Op}
 use Rattle.mono_syntax.specs.declared.leaf.Op.TheVariants as op
@@ -29,7 +29,7 @@ use Rattle.cast_machine.specs.Cells.{blaming, on_cell, read_cell, read_from, set
 use Rattle.cast_machine.specs.Heap.{Heap, cell_at}
 use Rattle.cast_machine.specs.HeapTyping.{AreTyped, HasType, IsAsPrecise, IsBelow, IsTyped}
 use Rattle.cast_machine.specs.Maps.{lookup}
-use Rattle.cast_machine.specs.Operators.{divided, floor_quotient, floor_rest, in_range, is_zero, negated, operate, ranged, remaining, same_value, truth}
+use Rattle.cast_machine.specs.Operators.{divided, floor_quotient, floor_rest, in_range, is_zero, negated, operate, ranged, remaining, same_value, truth, valued}
 use Rattle.cast_machine.specs.Rows.{binary_row, does, eval, evals, function_at, goes, handle_at, has, literal, name_at, neg_row, not_row, operates, puts, short}
 use Rattle.cast_machine.specs.Typing.{around}
 use Rattle.cast_machine.specs.WorkTyping.{IsWellTypedJoin, IsWellTypedWork, OnTop, OnTwo}
@@ -45,21 +45,12 @@ use Rattle.cast_machine.specs.declared.data.Work.TheVariants as work
 
 -- ---- operators
 
--- a site that is there
-abbrev pub IsThere : Option ℕ → Type 0
-IsThere None = ⊥
-IsThere (Some k) = Unit {0}
-
-is_there : (p : CastScript) (k : Option ℕ) (kind : Kind) → HasSite p k kind → IsThere k
-is_there p None kind i = i
-is_there p (Some k) kind i = tt
-
 -- what an operator gives has the type, and the sites for its errors are there
 abbrev pub OperatedOk : CastScript → Heap → Option ℕ → Option ℕ → Ty → Operated → Type 0
 OperatedOk p h k a T (operated.Gives v) = IsTyped p h v T
 OperatedOk p h k a T operated.Unfit = HasFree p k
-OperatedOk p h k a T operated.ZeroDivision = IsThere a
-OperatedOk p h k a T operated.Overflow = IsThere a
+OperatedOk p h k a T operated.ZeroDivision = HasSite p a kinds.Arithmetic
+OperatedOk p h k a T operated.Overflow = HasSite p a kinds.Arithmetic
 
 module _ (p : CastScript) (h : Heap) (k a : Option ℕ) (T : Ty) where
   abbrev Fine : Operated → Type 0
@@ -69,17 +60,17 @@ module _ (p : CastScript) (h : Heap) (k a : Option ℕ) (T : Ty) where
   abbrev IsIntType : Type 0
   IsIntType = (n : ℤ) → in_range n ≡ true → IsTyped p h (val.Int n) T
 
-  ranged_ok : IsIntType → IsThere a → (n : ℤ) → Fine (ranged n)
-  ranged_ok has there n = on_test (in_range n) _ _ Fine (λ e. has n e) (λ e. there)
+  ranged_ok : IsIntType → HasSite p a kinds.Arithmetic → (n : ℤ) → Fine (valued (ranged n))
+  ranged_ok has there n = on_test (in_range n) _ _ (λ o. Fine (valued o)) (λ e. has n e) (λ e. there)
 
-  divided_ok : IsIntType → IsThere a → (m n : ℤ) → Fine (divided m n)
-  divided_ok has there m n = on_test (is_zero n) _ _ Fine (λ e. there) (λ e. ranged_ok has there (floor_quotient m n))
+  divided_ok : IsIntType → HasSite p a kinds.Arithmetic → (m n : ℤ) → Fine (valued (divided m n))
+  divided_ok has there m n = on_test (is_zero n) _ _ (λ o. Fine (valued o)) (λ e. there) (λ e. ranged_ok has there (floor_quotient m n))
 
-  remaining_ok : IsIntType → IsThere a → (m n : ℤ) → Fine (remaining m n)
-  remaining_ok has there m n = on_test (is_zero n) _ _ Fine (λ e. there) (λ e. ranged_ok has there (floor_rest m n))
+  remaining_ok : IsIntType → HasSite p a kinds.Arithmetic → (m n : ℤ) → Fine (valued (remaining m n))
+  remaining_ok has there m n = on_test (is_zero n) _ _ (λ o. Fine (valued o)) (λ e. there) (λ e. ranged_ok has there (floor_rest m n))
 
   -- a sum of any values, which may be blamed
-  sum_ok : IsIntType → IsThere a → HasFree p k → (v w : Val) → Fine (operate op.Add v w)
+  sum_ok : IsIntType → HasSite p a kinds.Arithmetic → HasFree p k → (v w : Val) → Fine (operate op.Add v w)
   sum_ok has there free (val.Int m) (val.Int n) = ranged_ok has there (m +ℤ n)
   sum_ok has there free v w = free
 
@@ -114,15 +105,15 @@ module _ (p : CastScript) (h : Heap) (k a : Option ℕ) (A B T : Ty) (v w : Val)
   is_dyn_int e n r = subst (λ U. IsTyped p h (val.Int n) U) (sym e) (r, tt)
 
   add_ok : DynSum p k a A B T ⊎ Arithmetic p k a A B T → Good (operate op.Add v w)
-  add_ok (inl d) = sum_ok p h k a T (is_dyn_int d.type) (is_there p a kinds.Arithmetic d.arithmetic) (has_free p k kinds.Operator d.operator refl) v w
-  add_ok (inr u) = on_ints op.Add u.0 (λ m n. ranged_ok p h k a T (is_int u.2) (is_there p a kinds.Arithmetic u.1) (m +ℤ n))
+  add_ok (inl d) = sum_ok p h k a T (is_dyn_int d.type) d.arithmetic (has_free p k kinds.Operator d.operator refl refl) v w
+  add_ok (inr u) = on_ints op.Add u.0 (λ m n. ranged_ok p h k a T (is_int u.2) u.1 (m +ℤ n))
 
   pub operate_ok : (o : Op) → OperatorUse p o k a A B T → OperatedOk p h k a T (operate o v w)
   operate_ok op.Add u = add_ok u
-  operate_ok op.Sub u = on_ints op.Sub u.0 (λ m n. ranged_ok p h k a T (is_int u.2) (is_there p a kinds.Arithmetic u.1) (m -ℤ n))
-  operate_ok op.Mul u = on_ints op.Mul u.0 (λ m n. ranged_ok p h k a T (is_int u.2) (is_there p a kinds.Arithmetic u.1) (m *ℤ n))
-  operate_ok op.Div u = on_ints op.Div u.0 (λ m n. divided_ok p h k a T (is_int u.2) (is_there p a kinds.Arithmetic u.1) m n)
-  operate_ok op.Mod u = on_ints op.Mod u.0 (λ m n. remaining_ok p h k a T (is_int u.2) (is_there p a kinds.Arithmetic u.1) m n)
+  operate_ok op.Sub u = on_ints op.Sub u.0 (λ m n. ranged_ok p h k a T (is_int u.2) u.1 (m -ℤ n))
+  operate_ok op.Mul u = on_ints op.Mul u.0 (λ m n. ranged_ok p h k a T (is_int u.2) u.1 (m *ℤ n))
+  operate_ok op.Div u = on_ints op.Div u.0 (λ m n. divided_ok p h k a T (is_int u.2) u.1 m n)
+  operate_ok op.Mod u = on_ints op.Mod u.0 (λ m n. remaining_ok p h k a T (is_int u.2) u.1 m n)
   operate_ok op.Lt u = on_ints op.Lt u.0 (λ m n. is_bool u.2 (int_lt m n))
   operate_ok op.Le u = on_ints op.Le u.0 (λ m n. is_bool u.2 (int_le m n))
   operate_ok op.Gt u = on_ints op.Gt u.0 (λ m n. is_bool u.2 (int_lt n m))
@@ -130,12 +121,12 @@ module _ (p : CastScript) (h : Heap) (k a : Option ℕ) (A B T : Ty) (v w : Val)
   operate_ok op.Eq u = is_bool u.2 (same_value v w)
   operate_ok op.Ne u = is_bool u.2 (not (same_value v w))
 
-negated_ok : (p : CastScript) (h : Heap) (a : ℕ) (v : Val) → IsTyped p h v int → OperatedOk p h None (Some a) int (negated v)
-negated_ok p h a (val.Int n) i = ranged_ok p h None (Some a) int (int_type p h) tt (neg_ℤ n)
-negated_ok p h a v i = absurd i.1
+negated_ok : (p : CastScript) (h : Heap) (a : ℕ) → IsSite p a kinds.Arithmetic → (v : Val) → IsTyped p h v int → OperatedOk p h None (Some a) int (negated v)
+negated_ok p h a site (val.Int n) i = ranged_ok p h None (Some a) int (int_type p h) site (neg_ℤ n)
+negated_ok p h a site v i = absurd i.1
 
 -- a literal is in range
-literal_in_range : (n : ℕ) → in_range (pos (min n 140737488355327)) ≡ true
+literal_in_range : (n : ℕ) → in_range (pos (min n greatest_integer)) ≡ true
 literal_in_range n = grind arith
 
 module _ (p : CastScript) (h : Heap) (threads : List Thread) (s : Scope) (rs : List Ty) (me : ℕ) (R : Ty) (f : Frame) (below : List Frame) (ok : HereOk p h threads s rs me R f below) where
@@ -156,15 +147,15 @@ module _ (p : CastScript) (h : Heap) (threads : List Thread) (s : Scope) (rs : L
   more_work : (items : List Work) (ts : List Ty) → AreTyped p h f.values ts → IsWellTypedWork p s f.asked (items ++ f.work) ts → Ok (goes (does items f) below)
   more_work items ts vok i = work_ok p h threads s rs me R f below ok (items ++ f.work) f.values ts vok i
 
-  name_ok : (ts : List Ty) → AreTyped p h f.values ts → (k : ℕ) (x : List ℕ) (T : Ty) → type_of_name s.names x ≡ Some T → Rest (T ∷ ts) → (o : Option (Option Val)) → lookup f.names x ≡ o → Ok (name_at k o f below)
-  name_ok ts vok k x T t w None e = let d = ((ok.named).names_typed).there x T t in let z : None ≡ Some d.0 = sym e ∙ d.1 in absurd cc
-  name_ok ts vok k x T t w (Some None) e = fails_ok p h threads s rs me R f below ok (ends.Unbound k) tt
-  name_ok ts vok k x T t w (Some (Some v)) e = push_ok f.values ts vok v T (((ok.named).names_typed).typed x T v t e) w
+  name_ok : (ts : List Ty) → AreTyped p h f.values ts → (k : ℕ) → IsSite p k kinds.Name → (x : List ℕ) (T : Ty) → type_of_name s.names x ≡ Some T → Rest (T ∷ ts) → (o : Option (Option Val)) → lookup f.names x ≡ o → Ok (name_at k o f below)
+  name_ok ts vok k site x T t w None e = let d = ((ok.named).names_typed).there x T t in let z : None ≡ Some d.0 = sym e ∙ d.1 in absurd cc
+  name_ok ts vok k site x T t w (Some None) e = fails_ok p h threads s rs me R f below ok (ends.Unbound k) site
+  name_ok ts vok k site x T t w (Some (Some v)) e = push_ok f.values ts vok v T (((ok.named).names_typed).typed x T v t e) w
 
-  handle_ok : (ts : List Ty) → AreTyped p h f.values ts → (k : ℕ) (x : List ℕ) (T : Ty) → type_of_name s.threads x ≡ Some T → Rest (T ∷ ts) → (o : Option (Option ℕ)) → lookup f.handles x ≡ o → Ok (handle_at k o f below)
-  handle_ok ts vok k x T t w None e = let d = ((ok.named).handles_typed).there x T t in let z : None ≡ Some d.0 = sym e ∙ d.1 in absurd cc
-  handle_ok ts vok k x T t w (Some None) e = fails_ok p h threads s rs me R f below ok (ends.Unbound k) tt
-  handle_ok ts vok k x T t w (Some (Some n)) e =
+  handle_ok : (ts : List Ty) → AreTyped p h f.values ts → (k : ℕ) → IsSite p k kinds.Name → (x : List ℕ) (T : Ty) → type_of_name s.threads x ≡ Some T → Rest (T ∷ ts) → (o : Option (Option ℕ)) → lookup f.handles x ≡ o → Ok (handle_at k o f below)
+  handle_ok ts vok k site x T t w None e = let d = ((ok.named).handles_typed).there x T t in let z : None ≡ Some d.0 = sym e ∙ d.1 in absurd cc
+  handle_ok ts vok k site x T t w (Some None) e = fails_ok p h threads s rs me R f below ok (ends.Unbound k) site
+  handle_ok ts vok k site x T t w (Some (Some n)) e =
       goes_ok p h threads s rs me R f below ok (work.Join n ∷ f.work) f.values ts vok (record { empty = refl; type = T; thread = ((ok.named).handles_typed).typed x T n t e; later = w })
 
   join_ok : (ts : List Ty) → AreTyped p h f.values ts → (t : ℕ) → IsWellTypedJoin p (around s f.asked rs me) [] f.work t ts → (o : Option Val) → finished threads t ≡ o → WaitOk p rs me threads h R (join_of o f below)
@@ -185,7 +176,7 @@ module _ (p : CastScript) (h : Heap) (threads : List Thread) (s : Scope) (rs : L
   eval_ok pok ts vok (expr.text x) T t i = push_at ts vok (val.Text x) str T t (tt, tt) i
   eval_ok pok ts vok (expr.truth b) T t i = push_at ts vok (val.Bool b) bool T t (tt, tt) i
   eval_ok pok ts vok expr.nil T t i = push_at ts vok val.Nil nil T t (tt, tt) i
-  eval_ok pok ts vok (expr.local k x) T t i = name_ok ts vok k x T t.1 i (lookup f.names x) refl
+  eval_ok pok ts vok (expr.local k x) T t i = name_ok ts vok k t.0 x T t.1 i (lookup f.names x) refl
   eval_ok pok ts vok (expr.function g) T t i = subst (λ o. Ok (function_at g o f below)) (sym t.1) (push_at ts vok (val.Fun g (t.0).ty) (t.0).ty T t.2 (function_has pok g t.0 t.1) i)
   eval_ok pok ts vok (expr.neg a e) T t i = more_work (work.Eval e ∷ work.Neg a ∷ []) ts vok (t.1.0, t.1.1, (t.1.2, t.0, subst (λ k. Rest (k ∷ ts)) t.2 i))
   eval_ok pok ts vok (expr.negation e) T t i = more_work (work.Eval e ∷ work.Not ∷ []) ts vok (t.0.0, t.0.1, (t.0.2, subst (λ k. Rest (k ∷ ts)) t.1 i))
@@ -199,7 +190,7 @@ module _ (p : CastScript) (h : Heap) (threads : List Thread) (s : Scope) (rs : L
       more_work (work.Eval e ∷ evals (values_of args) ++ work.Call k (sites_of args) ∷ []) ts vok
       (t.0, t.2, evals_args p s f.asked args t.1 (t.0 ∷ ts) (work.Call k (sites_of args)) f.work t.3 (t.1, t.0, ts, T, t.4, refl, i))
   eval_ok pok ts vok (expr.fit k e) T t i = more_work (work.Eval e ∷ work.Cast k ∷ []) ts vok (t.0, t.1, (T, t.2, i))
-  eval_ok pok ts vok (expr.join k x) T t i = handle_ok ts vok k x T t.1 i (lookup f.handles x) refl
+  eval_ok pok ts vok (expr.join k x) T t i = handle_ok ts vok k t.0 x T t.1 i (lookup f.handles x) refl
 
   -- ---- operators
 
@@ -207,9 +198,9 @@ module _ (p : CastScript) (h : Heap) (threads : List Thread) (s : Scope) (rs : L
   operates_ok vs ts vok k a T w (operated.Gives v) i = push_ok vs ts vok v T i w
   operates_ok vs ts vok k a T w operated.Unfit i = blames_ok p h threads s rs me R f below ok k i
   operates_ok vs ts vok k None T w operated.ZeroDivision i = absurd i
-  operates_ok vs ts vok k (Some a) T w operated.ZeroDivision i = fails_ok p h threads s rs me R f below ok (ends.ZeroDivision a) tt
+  operates_ok vs ts vok k (Some a) T w operated.ZeroDivision i = fails_ok p h threads s rs me R f below ok (ends.ZeroDivision a) i
   operates_ok vs ts vok k None T w operated.Overflow i = absurd i
-  operates_ok vs ts vok k (Some a) T w operated.Overflow i = fails_ok p h threads s rs me R f below ok (ends.Overflow a) tt
+  operates_ok vs ts vok k (Some a) T w operated.Overflow i = fails_ok p h threads s rs me R f below ok (ends.Overflow a) i
 
   pub binary_ok : (vs : List Val) (ts : List Ty) (o : Op) (k a : Option ℕ) → AreTyped p h vs ts → OnTwo ts (λ B A us. (T : Ty) × OperatorUse p o k a A B T × IsWellTypedWork p s f.asked f.work (T ∷ us)) → MoveOk p rs me h R (binary_row o k a vs f below)
   binary_ok (w ∷ v ∷ vs) (B ∷ A ∷ ts) o k a vok i = operates_ok vs ts vok.1.1 k a i.0 i.2 (operate o v w) (operate_ok p h k a A B i.0 v w vok.1.0 vok.0 o i.1)
@@ -221,7 +212,7 @@ module _ (p : CastScript) (h : Heap) (threads : List Thread) (s : Scope) (rs : L
   binary_ok vs [] o k a vok i = absurd vok
 
   pub neg_ok : (vs : List Val) (ts : List Ty) (a : ℕ) → AreTyped p h vs ts → OnTop ts (λ S us. IsAsPrecise S int × IsSite p a kinds.Arithmetic × IsWellTypedWork p s f.asked f.work (int ∷ us)) → MoveOk p rs me h R (neg_row a vs f below)
-  neg_ok (v ∷ vs) (S ∷ ts) a vok i = operates_ok vs ts vok.1 None (Some a) int i.2 (negated v) (negated_ok p h a v (has_lower p h v S int vok.0 i.0))
+  neg_ok (v ∷ vs) (S ∷ ts) a vok i = operates_ok vs ts vok.1 None (Some a) int i.2 (negated v) (negated_ok p h a i.1 v (has_lower p h v S int vok.0 i.0))
   neg_ok [] [] a vok i = absurd i
   neg_ok [] (S ∷ ts) a vok i = absurd vok
   neg_ok (v ∷ vs) [] a vok i = absurd vok
@@ -267,8 +258,8 @@ module _ (p : CastScript) (h : Heap) (threads : List Thread) (s : Scope) (rs : L
 
   read_ok : (vs : List Val) (ts : List Ty) → AreTyped p h vs ts → (m : Option ℕ) (x : List ℕ) (T : Ty) → Rest (T ∷ ts) → (v : Val) (S : Ty) → IsTyped p h v S → FieldUse p m S x T → Ok (read_from h m x (v ∷ vs) f below)
   read_ok vs ts vok m x T w (val.Obj d a) (obj fs) has u = read_cell_ok vs ts vok m T w a x (cell_at h a x) refl (inl (has.1.1 x T u.0))
-  read_ok vs ts vok m x T w (val.Obj d a) dyn has u = read_cell_ok vs ts vok m T w a x (cell_at h a x) refl (inr (u.0, has_free p m kinds.Member u.1 refl))
-  read_ok vs ts vok m x T w v dyn has u = blames_ok p h threads s rs me R f below ok m (has_free p m kinds.Member u.1 refl)
+  read_ok vs ts vok m x T w (val.Obj d a) dyn has u = read_cell_ok vs ts vok m T w a x (cell_at h a x) refl (inr (u.0, has_free p m kinds.Member u.1 refl refl))
+  read_ok vs ts vok m x T w v dyn has u = blames_ok p h threads s rs me R f below ok m (has_free p m kinds.Member u.1 refl refl)
   read_ok vs ts vok m x T w v (obj fs) has u = absurd has.1
   read_ok vs ts vok m x T w v S has u = absurd u
 

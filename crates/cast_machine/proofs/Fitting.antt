@@ -57,7 +57,7 @@ set_typed p h a f d M v e low has ok b g c i =
 pub heap_set : (p : CastScript) (h : Heap) (a : ℕ) (f : List ℕ) (d : Cell) (M : Ty) (v : Val) → cell_at h a f ≡ Some d → IsAsPrecise M d.ty → IsTyped p h v M → HeapOk p h → HeapOk p (set_cell h a f (holds M v))
 heap_set p h a f d M v e low has ok = record {
   letter = record { typed = λ b g c i. (set_typed p h a f d M v e low has ok b g c i).1 };
-  own = record { values = λ b g c i. (set_typed p h a f d M v e low has ok b g c i).0; named = λ b cl ns i. (ok.own).named b cl ns (sym (shape-set h a f (holds M v) d e b) ∙ i) };
+  own = record { values = λ b g c i. (set_typed p h a f d M v e low has ok b g c i).0; named = λ b cl ns i. (ok.own).named b cl ns (sym (shape-set h a f (holds M v) d e b) ∙ i); classes = λ b cl ns i. (ok.own).classes b cl ns (sym (shape-set h a f (holds M v) d e b) ∙ i) };
 }
 
 -- a less precise type

@@ -1,5 +1,5 @@
 -- What is true of a heap stays true where recorded types only gain precision and threads are only added.
-use Rattle.std.proofs.Common.{List, None, Option, Some, [], inl, inr, slice_get, ℕ, ⊎_elim, ◌∷◌, ◌≡◌}
+use Rattle.std.proofs.Common.{◌++◌, List, None, Option, Some, [], inl, inr, slice_get, ℕ, ⊎_elim, ◌∷◌, ◌≡◌}
 use Rattle.mono_syntax.specs.Ty.{Ty, bool, dyn, fun, int, nil, obj, str}
 use Rattle.mono_syntax.specs.declared.cast.CastScript.{CastScript}
 use Rattle.mono_syntax.specs.declared.cast.NamedType.{NamedType}
@@ -9,7 +9,7 @@ use Rattle.mono_tree.proofs.TypeLaws.{precise_refl, precise_trans}
 use Rattle.mono_tree.specs.FieldNames.{names_of}
 use Rattle.cast_machine.specs.Cells.{blamed}
 use Rattle.cast_machine.specs.Heap.{Heap, cell_at}
-use Rattle.cast_machine.specs.HeapTyping.{AreTyped, Extends, HasType, IsAsPrecise, IsBelow, IsHeapOf, IsTyped, IsValueOf, IsWellTypedHeap}
+use Rattle.cast_machine.specs.HeapTyping.{AreTyped, Extends, HasType, IsAsPrecise, IsBelow, IsHeapOf, IsTyped, IsValueOf, IsWellTypedHeap, AreLinesOf, AreValuesOf}
 use Rattle.cast_machine.specs.Typing.{AreHandlesTyped, AreLater, AreNamesTyped, IsNamed, IsWellTypedFrame, IsWellTypedLower, IsWellTypedStack, IsWellTypedState, around}
 use Rattle.cast_machine.specs.WorkTyping.{Around, IsLater, IsWellTypedObligation, IsWellTypedTop, MayBeBlamed, Owns, Pending}
 use Rattle.cast_machine.specs.declared.data.Cell.{Cell}
@@ -62,6 +62,24 @@ values_grow p x [] [] i = i
 values_grow p x (v ∷ vs) (T ∷ ts) i = (has_grows p x v T i.0, values_grow p x vs ts i.1)
 values_grow p x vs ts i = absurd i
 
+pub line_grows : (p : CastScript) {h h' : Heap} → Extends h h' → (vs : List Val) → AreValuesOf p h vs → AreValuesOf p h' vs
+line_grows p x [] i = i
+line_grows p x (v ∷ vs) i = (value_grows p x v i.0, line_grows p x vs i.1)
+
+pub lines_grow : (p : CastScript) {h h' : Heap} → Extends h h' → (ls : List (List Val)) → AreLinesOf p h ls → AreLinesOf p h' ls
+lines_grow p x [] i = i
+lines_grow p x (l ∷ ls) i = (line_grows p x l i.0, lines_grow p x ls i.1)
+
+pub lines_more : (p : CastScript) (h : Heap) (ls : List (List Val)) (line : List Val) → AreLinesOf p h ls → AreValuesOf p h line → AreLinesOf p h (ls ++ line ∷ [])
+lines_more p h [] line i j = (j, tt)
+lines_more p h (l ∷ ls) line i j = (i.0, lines_more p h ls line i.1 j)
+
+pub values_of_script : (p : CastScript) (h : Heap) (vs : List Val) (ts : List Ty) → AreTyped p h vs ts → AreValuesOf p h vs
+values_of_script p h [] [] i = tt
+values_of_script p h (v ∷ vs) (T ∷ ts) i = (i.0.0, values_of_script p h vs ts i.1)
+values_of_script p h [] (T ∷ ts) i = absurd i
+values_of_script p h (v ∷ vs) [] i = absurd i
+
 pub env_grows : {p : CastScript} {h h' : Heap} {names : List (List ℕ × Option Val)} {types : List NamedType} → Extends h h' → AreNamesTyped p h names types → AreNamesTyped p h' names types
 env_grows {p = p} x i = record { there = i.there; typed = λ y T v e d. has_grows p x v T (i.typed y T v e d) }
 
@@ -92,7 +110,7 @@ owns_grows x i = record {
 
 blame_grows : {h h' : Heap} → Extends h h' → (p : CastScript) (k : Option ℕ) (a : ℕ) (f : List ℕ) (T : Ty) → MayBeBlamed p h k a f T → MayBeBlamed p h' k a f T
 blame_grows x p None a f T i = i
-blame_grows x p (Some k) a f T i = λ e. below_grows x (i e)
+blame_grows x p (Some k) a f T i = (i.0, λ e. below_grows x (i.1 e))
 
 ob_grows : {p : CastScript} {h h' : Heap} {rest : List Work} {cl a : ℕ} {f : List ℕ} {T : Ty} → Extends h h' → IsWellTypedObligation p h rest cl a f T → IsWellTypedObligation p h' rest cl a f T
 ob_grows {p = p} {rest = rest} {cl = cl} {a = a} {f = f} {T = T} x i =
@@ -103,7 +121,7 @@ module _ (p : CastScript) (q : Around) (rs' : List Ty) (y : MoreResults q.result
   pub top_grows : {h h' : Heap} → Extends h h' → (left : List Pending) (rest : List Work) (vs : List Val) (ts : List Ty) → IsWellTypedTop p q h left rest vs ts → IsWellTypedTop p (record q { results = rs' }) h' left rest vs ts
   top_grows x left (work.Obligation cl a f T None ∷ rest) vs ts i = (ob_grows x i.0, top_grows x (record { object = a; field = f; to = T } ∷ left) rest vs ts i.1)
   top_grows x left (work.Obligation cl a f T (Some r) ∷ rest) vs ts i = (ob_grows x i.0, owns_grows x i.1, top_grows x (record { object = a; field = f; to = T } ∷ []) rest vs ts i.2)
-  top_grows x left (work.Fitted k T j ∷ rest) vs ts i = record { value = i.value; at = i.at; owns = owns_grows x i.owns; later = i.later }
+  top_grows x left (work.Fitted k T j ∷ rest) vs ts i = record { site = i.site; value = i.value; at = i.at; owns = owns_grows x i.owns; later = i.later }
   top_grows x left (work.Write m k F f (Some R) ∷ rest) (r ∷ v ∷ vs) (S ∷ A ∷ ts) i = record { owns = owns_grows x i.owns; write = i.write; dynamic = i.dynamic; later = i.later }
   top_grows x left (work.Join t ∷ rest) vs ts i = record { empty = i.empty; type = i.type; thread = later_grows y i.thread; later = i.later }
   top_grows x left rest vs ts i = i

@@ -17,6 +17,13 @@ pub mod ThreadLists
 pub mod Threads
 pub mod Progress
 pub mod CastsGo
+pub mod RowLimits
+pub mod WithinLimits
 pub mod Runs
 pub mod Ranks
 pub mod SeededRuns
+pub mod Division
+pub mod CellVerdicts
+pub mod Addresses
+pub mod SeededPicks
+pub mod ExampleSteps

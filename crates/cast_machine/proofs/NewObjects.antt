@@ -117,6 +117,10 @@ module _ (p : CastScript) (h : Heap) (threads : List Thread) (s : Scope) (rs : L
             let z : (cl, keys m.cells) ≡ (k, ns) = some_is fresh in
             sym (ap (λ (q : ℕ × List (List ℕ)). q.1) z) ∙ m.names ∙ ap names_of (sym (ap fields_in at)) ∙ ap (class_names p) (ap (λ (q : ℕ × List (List ℕ)). q.0) z))
             (shape-split h o a (k, ns) e);
+        classes = λ a k ns e. ⊎_elim
+            (λ old. ((ok.heap).own).classes a k ns old)
+            (λ fresh. let z : (cl, keys m.cells) ≡ (k, ns) = some_is fresh in (d, subst (λ j. slice_get p.classes j ≡ Some d) (ap (λ (q : ℕ × List (List ℕ)). q.0) z) at))
+            (shape-split h o a (k, ns) e);
       };
     }
 
@@ -154,6 +158,7 @@ module _ (p : CastScript) (h : Heap) (threads : List Thread) (s : Scope) (rs : L
             stack_grows p rs rs me (λ t U e. e) grows f.asked below R ok.stack,
           );
           begun = tt;
+          said = tt;
           ends = tt;
           lives = λ _. tt;
         })

@@ -1,7 +1,9 @@
 -- An obligation in one step keeps everything well typed.
+use Rattle.cast_machine.specs.BlamedSites.{IsRightBlame}
 use Rattle.std.proofs.Common.{Bool, List, None, Option, Some, [], arith, false, inl, inr, length, refl, slice_get, subst, sym, true, ℕ, ⊎_elim, ◌++◌, ◌<◌, ◌∙◌, ◌∷◌, ◌≡◌, ◌⊎◌}
 use Rattle.std.proofs.lemmas.Bool.{and_parts, false≢true}
 use Rattle.mono_list.proofs.Cases.{some_is}
+use Rattle.mono_syntax.specs.Limits.{most_threads}
 use Rattle.mono_syntax.specs.Ty.{Fields, Ty, dyn, more_fields, no_fields, obj}
 use Rattle.mono_syntax.specs.declared.cast.CastScript.{CastScript}
 use Rattle.mono_syntax.specs.declared.value.Val.{Val}
@@ -20,7 +22,7 @@ use Rattle.cast_machine.specs.Calls.{finished}
 use Rattle.cast_machine.specs.Cells.{blamed, blaming, holds, is_ready, meets, obligation_cell, obligation_step, on_cell, same_object, same_type, settle, strengthen}
 use Rattle.cast_machine.specs.Fits.{fit_of}
 use Rattle.cast_machine.specs.Heap.{Heap, cell_at, set_cell, shape_at}
-use Rattle.cast_machine.specs.HeapTyping.{AreTyped, Extends, IsAsPrecise, IsBelow, IsTyped}
+use Rattle.cast_machine.specs.HeapTyping.{AreTyped, Extends, IsAsPrecise, IsBelow, IsTyped, AreValuesOf}
 use Rattle.cast_machine.specs.Obligations.{obligations}
 use Rattle.cast_machine.specs.Rows.{blames, fails, goes, has}
 use Rattle.cast_machine.specs.Typing.{AreRightEnds, IsNamed, IsRightEnd, IsWellTypedStack, IsWellTypedState, Lives, around, result_type}
@@ -61,14 +63,20 @@ end_after (change.Ends e) = Some e
 end_after d = None
 
 abbrev pub BegunOk : CastScript → List Ty → ℕ → Heap → Change → Type 0
-BegunOk p rs n h (change.Begins th) = IsWellTypedState p rs n h (result_type th) th.state × Lives n th.state × (n < 256) × (th.steps ≡ 0)
+BegunOk p rs n h (change.Begins th) = IsWellTypedState p rs n h (result_type th) th.state × Lives n th.state × (n < most_threads) × (th.steps ≡ 0)
 BegunOk p rs n h d = Unit {0}
+
+-- a line that is printed has values of the script
+abbrev pub SaidOk : CastScript → Heap → Change → Type 0
+SaidOk p h (change.Says line) = AreValuesOf p h line
+SaidOk p h d = Unit {0}
 
 pub record Kept (p : CastScript) (rs : List Ty) (me : ℕ) (h : Heap) (R : Ty) (d : Change) (st : State) : Type 0 where
   pub grows : Extends h (heap_after d h)
   pub heap : HeapOk p (heap_after d h)
   pub state : IsWellTypedState p (results_after d rs) me (heap_after d h) R st
   pub begun : BegunOk p (results_after d rs) (length rs) (heap_after d h) d
+  pub said : SaidOk p (heap_after d h) d
   pub ends : AreRightEnds p (end_after d)
   pub lives : end_after d ≡ None → Lives me st
 
@@ -134,7 +142,7 @@ discharge p q h left less (work.Obligation cl a f T None ∷ items) vs ts e c i 
     let o : Pending = record { object = a; field = f; to = T } in
     (i.0, discharge p q h (o ∷ left) (o ∷ less) items vs ts (λ x. absurd cc) (covers_more h left less o c) i.1)
 discharge p q h left less (work.Obligation cl a f T (Some r) ∷ items) vs ts e c i = (i.0, owns_less c i.1, i.2)
-discharge p q h left less (work.Fitted k T j ∷ items) vs ts e c i = record { value = i.value; at = i.at; owns = owns_less c i.owns; later = i.later }
+discharge p q h left less (work.Fitted k T j ∷ items) vs ts e c i = record { site = i.site; value = i.value; at = i.at; owns = owns_less c i.owns; later = i.later }
 discharge p q h left less (work.Join t ∷ items) vs ts e c i = record { empty = e i.empty; type = i.type; thread = i.thread; later = i.later }
 discharge p q h left less (work.Write m k F f (Some R) ∷ items) (r ∷ v ∷ vs) (S ∷ A ∷ ts) e c i = record { owns = owns_less c i.owns; write = i.write; dynamic = i.dynamic; later = i.later }
 discharge p q h left less (work.Write m k F f (Some R) ∷ items) vs ts e c i = absurd i
@@ -211,7 +219,7 @@ same_type-eq S T e = let x = and_parts (precise S T) (precise T S) e in precise_
 
 -- a site that may be blamed
 abbrev pub IsFree : CastScript → ℕ → Type 0
-IsFree p k = loses_precision p k ≡ false
+IsFree p k = IsRightBlame p k
 
 abbrev pub HasFree : CastScript → Option ℕ → Type 0
 HasFree p None = ⊥
@@ -224,6 +232,7 @@ module _ (p : CastScript) (h : Heap) (threads : List Thread) (s : Scope) (rs : L
     heap = ok.heap;
     state = (record { scope = s; named = ok.named; types = ts; values = vok; work = tok }, ok.stack);
     begun = tt;
+    said = tt;
     ends = tt;
     lives = λ e. tt;
   }
@@ -241,6 +250,7 @@ module _ (p : CastScript) (h : Heap) (threads : List Thread) (s : Scope) (rs : L
       stack_grows p rs rs me (λ t U e. e) g f.asked below R ok.stack,
     );
     begun = tt;
+    said = tt;
     ends = tt;
     lives = λ e. tt;
   }
@@ -249,7 +259,7 @@ module _ (p : CastScript) (h : Heap) (threads : List Thread) (s : Scope) (rs : L
   sets_on a x d g hok items vs ts vok tok = sets_new a x d g hok items vs ts vok (top_grows p (around s f.asked rs me) rs (λ t U e. e) g [] items vs ts tok)
 
   pub fails_ok : (e : End) → IsRightEnd p e → MoveOk p rs me h R (fails e)
-  fails_ok e i = record { grows = extends_refl h; heap = ok.heap; state = i; begun = tt; ends = tt; lives = λ e. tt }
+  fails_ok e i = record { grows = extends_refl h; heap = ok.heap; state = i; begun = tt; said = tt; ends = tt; lives = λ e. tt }
 
   pub blaming_ok : (a : ℕ) (x : List ℕ) (k : Option ℕ) → HasFree p k → MoveOk p rs me h R (settle a x (blaming k) below)
   blaming_ok a x None i = absurd i
@@ -262,16 +272,16 @@ module _ (p : CastScript) (h : Heap) (threads : List Thread) (s : Scope) (rs : L
 -- a site below an obligation that isn't met may be blamed
 pub free_below : (p : CastScript) (h : Heap) (k : Option ℕ) (a : ℕ) (f : List ℕ) (T : Ty) (c : Cell) → cell_at h a f ≡ Some c → precise c.ty T ≡ false → MayBeBlamed p h k a f T → HasFree p k
 free_below p h None a f T c at isnt i = i
-free_below p h (Some k) a f T c at isnt i = go (loses_precision p k) refl
+free_below p h (Some k) a f T c at isnt i = (go (loses_precision p k) refl, i.0)
   where
     go : (t : Bool) → loses_precision p k ≡ t → loses_precision p k ≡ false
     go false e = e
-    go true e = let b = i e in let one : b.cell ≡ c = some_is (sym b.at ∙ at) in absurd (false≢true (sym isnt ∙ subst (λ (x : Cell). IsAsPrecise x.ty T) one b.low))
+    go true e = let b = i.1 e in let one : b.cell ≡ c = some_is (sym b.at ∙ at) in absurd (false≢true (sym isnt ∙ subst (λ (x : Cell). IsAsPrecise x.ty T) one b.low))
 
 -- a site that may not be blamed stands below no obligation that isn't met
 not_free : (p : CastScript) (h : Heap) (k : Option ℕ) (a : ℕ) (f : List ℕ) (T : Ty) (c : Cell) → cell_at h a f ≡ Some c → precise c.ty T ≡ false → MayBeBlamed p h k a f T → (b : ℕ) (g : List ℕ) (U : Ty) → MayBeBlamed p h k b g U
 not_free p h None a f T c at isnt i b g U = i
-not_free p h (Some k) a f T c at isnt i b g U = λ e. let x = i e in let one : x.cell ≡ c = some_is (sym x.at ∙ at) in absurd (false≢true (sym isnt ∙ subst (λ (y : Cell). IsAsPrecise y.ty T) one x.low))
+not_free p h (Some k) a f T c at isnt i b g U = (i.0, λ e. let x = i.1 e in let one : x.cell ≡ c = some_is (sym x.at ∙ at) in absurd (false≢true (sym isnt ∙ subst (λ (y : Cell). IsAsPrecise y.ty T) one x.low)))
 
 -- a ready pair whose obligations are gone
 ready_has : (p : CastScript) (q : Around) (h : Heap) (cl a : ℕ) (f : List ℕ) (T : Ty) (r : Option Ready) (rest : List Work) (vs : List Val) (ts : List Ty) (v : Val) (M : Ty) → IsWellTypedTop p q h [] (work.Obligation cl a f T r ∷ rest) vs ts → is_ready r v M ≡ true → IsTyped p h v M

@@ -3,6 +3,7 @@ use Rattle.std.proofs.Math.Nat.{suc-mul}
 use Rattle.std.proofs.Common.{List, None, Option, Some, [], ap, arith, is_some, length, length-append, nat_lt, refl, slice_get, slice_set, subst, suc, suc-mul, sym, true, unwrap_or, zero, ℕ, ◌&&◌, ◌*◌, ◌++◌, ◌+◌, ◌-◌, ◌<◌, ◌∙◌, ◌∷◌, ◌≡◌, ◌≤◌}
 use Rattle.std.proofs.lemmas.Bool.{false≢true}
 use Rattle.mono_list.proofs.Cases.{none_some, some_is}
+use Rattle.mono_syntax.specs.Limits.{most_items, most_threads}
 use Rattle.mono_syntax.specs.Ty.{Ty}
 use Rattle.mono_syntax.specs.declared.cast.CastScript.{CastScript}
 use Rattle.mono_tree.specs.TypedPrograms.{IsTypedProgram}
@@ -44,7 +45,7 @@ threads_rank fuel (th ∷ ths) = thread_rank fuel th + threads_rank fuel ths
 
 -- with the threads that may still be made
 abbrev pub total : ℕ → List Thread → ℕ
-total fuel ths = threads_rank fuel ths + (256 - length ths) * (fuel + 2)
+total fuel ths = threads_rank fuel ths + (most_threads - length ths) * (fuel + 2)
 
 abbrev pub rank : Configuration → ℕ
 rank c = total c.settings.fuel c.threads
@@ -75,21 +76,21 @@ total-set : (fuel : ℕ) (ths : List Thread) (t : ℕ) (old new : Thread) → sl
 total-set fuel ths t old new e less =
     let r = rank-set fuel ths t old new e less in
     let l = length-slice_set ths t new in
-    subst (λ n. threads_rank fuel (slice_set ths t new) + (256 - n) * (fuel + 2) < total fuel ths) (sym l)
-    (smaller (threads_rank fuel (slice_set ths t new)) (threads_rank fuel ths) ((256 - length ths) * (fuel + 2)) r)
+    subst (λ n. threads_rank fuel (slice_set ths t new) + (most_threads - n) * (fuel + 2) < total fuel ths) (sym l)
+    (smaller (threads_rank fuel (slice_set ths t new)) (threads_rank fuel ths) ((most_threads - length ths) * (fuel + 2)) r)
   where
     smaller : (a b c : ℕ) → a < b → a + c < b + c
     smaller a b c h = omega arith
 
 -- one thread fewer that may be made
-fewer : (n k : ℕ) → n < 256 → (256 - n) * k ≡ (256 - (n + 1)) * k + k
-fewer n k h = let e : 256 - n ≡ suc (256 - (n + 1)) = omega arith in ap (λ m. m * k) e ∙ suc-mul (256 - (n + 1)) k
+fewer : (n k : ℕ) → n < most_threads → (most_threads - n) * k ≡ (most_threads - (n + 1)) * k + k
+fewer n k h = let e : most_threads - n ≡ suc (most_threads - (n + 1)) = omega arith in ap (λ m. m * k) e ∙ suc-mul (most_threads - (n + 1)) k
 
-total-append : (fuel : ℕ) (ths : List Thread) (th : Thread) → length ths < 256 → thread_rank fuel th ≤ fuel + 2 → total fuel (ths ++ th ∷ []) ≤ total fuel ths
+total-append : (fuel : ℕ) (ths : List Thread) (th : Thread) → length ths < most_threads → thread_rank fuel th ≤ fuel + 2 → total fuel (ths ++ th ∷ []) ≤ total fuel ths
 total-append fuel ths th room small =
     let l : length (ths ++ th ∷ []) ≡ length ths + 1 = omega (arith, length-append ths (th ∷ [])) in
-    subst (λ n. threads_rank fuel (ths ++ th ∷ []) + (256 - n) * (fuel + 2) ≤ total fuel ths) (sym l)
-    (joined (threads_rank fuel (ths ++ th ∷ [])) (threads_rank fuel ths) (thread_rank fuel th) (fuel + 2) ((256 - (length ths + 1)) * (fuel + 2)) ((256 - length ths) * (fuel + 2)) (rank-append fuel ths th) small (fewer (length ths) (fuel + 2) room))
+    subst (λ n. threads_rank fuel (ths ++ th ∷ []) + (most_threads - n) * (fuel + 2) ≤ total fuel ths) (sym l)
+    (joined (threads_rank fuel (ths ++ th ∷ [])) (threads_rank fuel ths) (thread_rank fuel th) (fuel + 2) ((most_threads - (length ths + 1)) * (fuel + 2)) ((most_threads - length ths) * (fuel + 2)) (rank-append fuel ths th) small (fewer (length ths) (fuel + 2) room))
   where
     joined : (a b c k m n : ℕ) → a ≡ b + c → c ≤ k → n ≡ m + k → a + m ≤ b + n
     joined a b c k m n e h d = omega arith
@@ -147,7 +148,7 @@ module _ (p : CastScript) (pok : IsTypedProgram p) (c : Configuration) (ok : IsW
         let ths = slice_set c.threads t new in
         let l = length-slice_set c.threads t new in
         let first : total fuel ths < total fuel c.threads = total-set fuel c.threads t old new at less in
-        let more : total fuel (ths ++ th ∷ []) ≤ total fuel ths = total-append fuel ths th (subst (λ k. k < 256) (sym l) i.2) (begun_rank fuel th i.3) in
+        let more : total fuel (ths ++ th ∷ []) ≤ total fuel ths = total-append fuel ths th (subst (λ k. k < most_threads) (sym l) i.2) (begun_rank fuel th i.3) in
         let same : slice_set (slice_set c.threads t taken_out ++ th ∷ []) t new ≡ ths ++ th ∷ [] =
         set_append (slice_set c.threads t taken_out) t new th taken_out (set_here c.threads t taken_out old at) ∙ ap (λ k. k ++ th ∷ []) (set_again c.threads t taken_out new) in
         subst (λ k. total fuel k < total fuel c.threads) (sym same) (below_both (total fuel (ths ++ th ∷ [])) (total fuel ths) (total fuel c.threads) more first)
@@ -162,7 +163,7 @@ module _ (p : CastScript) (pok : IsTypedProgram p) (c : Configuration) (ok : IsW
   counted_falls : (old : Thread) → slice_get c.threads t ≡ Some old → (f : Frame) (below : List Frame) → old.state ≡ state.Running f below → (d : Change) (st : State) → Kept p (results_of c.threads) t c.heap (result_type old) d st → StepFalls c (Some (counted t old d st out))
   counted_falls old at f below e d st k =
       let r = running_rank old f below e in
-      on_test (nat_lt 16384 (items_of st)) _ _ (λ after. StepFalls c (Some after))
+      on_test (nat_lt most_items (items_of st)) _ _ (λ after. StepFalls c (Some after))
       (λ deep. stays_falls old at (state.Failing ends.DepthLimit) (old.steps + 1) (subst (λ m. 1 < m) (sym r) (omega arith)) c.end)
       (λ fits. changed_falls old at (fueled fuel (old.steps + 1) st) (old.steps + 1) (subst (λ m. state_rank fuel (fueled fuel (old.steps + 1) st) (old.steps + 1) < m) (sym r) (fueled_rank fuel old.steps st)) d
       (heap_after d c.heap) (results_after d (results_of c.threads)) (subst (λ m. BegunOk p (results_after d (results_of c.threads)) m (heap_after d c.heap) d) (results_length c.threads) k.begun))
@@ -204,5 +205,5 @@ module _ (p : CastScript) (pok : IsTypedProgram p) (c : Configuration) (ok : IsW
       go (Some after) i j = j
 
 -- the rank at the start
-pub start_rank : (p : CastScript) (s : Settings) → rank (start_of p s) ≤ 256 * (s.fuel + 2)
+pub start_rank : (p : CastScript) (s : Settings) → rank (start_of p s) ≤ most_threads * (s.fuel + 2)
 start_rank p s = omega arith

@@ -1,4 +1,6 @@
 -- Every configuration of a run is safe.
+use Rattle.cast_machine.specs.RunLimits.{IsWithinLimits}
+use Rattle.cast_machine.proofs.WithinLimits.{run_within, start_within}
 use Rattle.std.proofs.Common.{List, None, Some, [], refl, slice_get, subst, suc, sym, zero, ℕ, ◌∙◌, ◌∷◌, ◌≡◌, ◌≤◌}
 use Rattle.std.proofs.lemmas.Bool.{false≢true}
 use Rattle.mono_list.proofs.Cases.{none_some, some_is}
@@ -39,7 +41,8 @@ main_ok p ok = (
 pub start_ok : (p : CastScript) → IsTypedProgram p → (s : Settings) → IsWellTyped p (start_of p s)
 start_ok p ok s = record {
   heap = record { typed = λ a x c e. none_some _ e };
-  own = record { values = λ a x c e. none_some _ e; named = λ a k ns e. none_some _ e };
+  own = record { values = λ a x c e. none_some _ e; named = λ a k ns e. none_some _ e; classes = λ a k ns e. none_some _ e };
+  lines = tt;
   threads = λ t th e. at t th e;
   end = tt;
   lives = λ e t th i. lives t th i;
@@ -59,21 +62,23 @@ start_ok p ok s = record {
 no_losing : (p : CastScript) (c : Configuration) → IsWellTyped p c → HoldsLosingBlame p c → ⊥
 no_losing p c ok (failing t k th at st lost) =
     let typed : IsRightEnd p (ends.Blame k) = subst (λ x. IsWellTypedState p (results_of c.threads) t c.heap (result_type th) x) st (ok.threads t th at) in
-    false≢true (sym typed ∙ lost)
+    false≢true (sym typed.0 ∙ lost)
 no_losing p c ok (recorded k e lost) =
     let typed : IsRightEnd p (ends.Blame k) = subst (λ x. AreRightEnds p x) e ok.end in
-    false≢true (sym typed ∙ lost)
+    false≢true (sym typed.0 ∙ lost)
 
 -- ---- the law
 
-pub safe_at : (p : CastScript) → IsTypedProgram p → (c : Configuration) → IsWellTyped p c → IsSafe p c
-safe_at p pok c ok = record {
+pub safe_at : (p : CastScript) → IsTypedProgram p → (c : Configuration) → IsWellTyped p c → IsWithinLimits p c → IsSafe p c
+safe_at p pok c ok within = record {
   typed = ok;
   runs = not_stuck p pok c ok;
   blames = no_losing p c ok;
   gains = λ t. (pick_ok p pok c ok t).1;
   casts = casts_hold p c ok;
+  limits = within;
 }
 
 pub safe_run : (p : CastScript) → IsTypedProgram p → (s : Settings) → 1 ≤ s.fuel → (order : List ℕ) → IsSafe p (run_of p s order)
-safe_run p pok s fuel order = safe_at p pok (run_of p s order) (run_ok p pok (start_of p s) (start_ok p pok s) order)
+safe_run p pok s fuel order =
+    safe_at p pok (run_of p s order) (run_ok p pok (start_of p s) (start_ok p pok s) order) (run_within p (start_of p s) (start_within p s fuel) fuel order)

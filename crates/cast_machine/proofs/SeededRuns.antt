@@ -2,13 +2,14 @@
 use Rattle.std.proofs.Math.Nat.{mod-lt}
 use Rattle.std.proofs.Common.{Bool, List, None, Option, Some, [], ap, arith, false, if◌then◌else◌, is_some, length, mod-lt, refl, set, slice_get, suc, sym, true, zero, ℕ, ◌*◌, ◌+◌, ◌/◌, ◌<◌, ◌^◌, ◌∙◌, ◌∷◌, ◌≡◌, ◌≤◌}
 use Rattle.std.proofs.lemmas.Bool.{false≢true}
+use Rattle.mono_syntax.specs.Limits.{most_threads}
 use Rattle.mono_syntax.specs.declared.cast.CastScript.{CastScript}
 use Rattle.mono_tree.specs.TypedPrograms.{IsTypedProgram}
 use Rattle.cast_machine.proofs.Progress.{progress, runnable_steps}
 use Rattle.cast_machine.proofs.Ranks.{pick_falls, rank, start_rank}
 use Rattle.cast_machine.proofs.Runs.{start_ok}
 use Rattle.cast_machine.proofs.Threads.{pick_ok}
-use Rattle.cast_machine.specs.Seeded.{picked_at, seeded, seeded_thread}
+use Rattle.cast_machine.specs.computed.Seeded.{picked_at, seeded, seeded_thread}
 use Rattle.cast_machine.specs.Step.{Configuration, IsSeededRun, ended, is_runnable, next_seed, pick, picked, picks, run_from, runnable_threads, start_of}
 use Rattle.cast_machine.specs.Typing.{IsWellTyped}
 use Rattle.cast_machine.specs.declared.data.End.{End}
@@ -82,8 +83,8 @@ ends_within p pok (suc n) s c ok le =
     one_more p pok n s c ok le (λ t small. ends_within p pok n (next_seed s) (picked p c t) (pick_ok p pok c ok t).0 small) (is_some c.end) refl
 
 -- the run of a script
-pub run_ends : (p : CastScript) → IsTypedProgram p → (set : Settings) (s : ℕ) → EndsBy p (256 * (set.fuel + 2)) s (start_of p set)
-run_ends p pok set s = ends_within p pok (256 * (set.fuel + 2)) s (start_of p set) (start_ok p pok set) (start_rank p set)
+pub run_ends : (p : CastScript) → IsTypedProgram p → (set : Settings) (s : ℕ) → EndsBy p (most_threads * (set.fuel + 2)) s (start_of p set)
+run_ends p pok set s = ends_within p pok (most_threads * (set.fuel + 2)) s (start_of p set) (start_ok p pok set) (start_rank p set)
 
 -- ---- the loop that computes it
 

@@ -1,5 +1,6 @@
 -- Fits and writes keep everything well typed.
-use Rattle.std.proofs.Common.{Bool, List, None, Option, Some, [], ap, false, if◌then◌else◌, refl, slice_get, slice_set, subst, sym, true, ℕ, ◌++◌, ◌∙◌, ◌∷◌, ◌≡◌}
+use Rattle.cast_machine.specs.BlamedSites.{IsFitSite}
+use Rattle.std.proofs.Common.{Bool, List, None, Option, Some, [], ap, false, if◌then◌else◌, refl, slice_get, slice_set, subst, sym, true, ℕ, ◌++◌, ◌∙◌, ◌∷◌, ◌≡◌, inr, inl}
 use Rattle.std.proofs.lemmas.Bool.{and_parts, false≢true}
 use Rattle.mono_list.proofs.Cases.{none_some, some_is}
 use Rattle.mono_syntax.specs.Ty.{Fields, Ty, dyn, obj}
@@ -13,7 +14,7 @@ use Rattle.mono_tree.specs.Precision.{precise}
 use Rattle.mono_tree.specs.Sites.{IsSite, is_cast, loses_precision, site_loses, types_lose}
 use Rattle.mono_tree.specs.Static.{is_static}
 use Rattle.mono_tree.specs.TypedPrograms.{CastUse, FieldUse, Scope, SiteWhere, WriteUse}
-use Rattle.cast_machine.proofs.Blames.{free_site, has_free, has_free_to}
+use Rattle.cast_machine.proofs.Blames.{free_site, has_free, has_free_to, fit_blamed}
 use Rattle.cast_machine.proofs.Fitting.{FitOk, extends_set, fit_ok, has_lower, heap_set}
 use Rattle.cast_machine.proofs.Heap.{on_test}
 use Rattle.cast_machine.proofs.Obligations.{HasFree, HereOk, MoveOk, blames_ok, blaming_ok, goes_ok, group, owns-all, same_type-eq, sets_on, work_ok, work_top}
@@ -38,7 +39,7 @@ use Rattle.cast_machine.specs.declared.data.Work.TheVariants as work
 
 free_blame : (p : CastScript) (h : Heap) (k : Option ℕ) (a : ℕ) (x : List ℕ) (T : Ty) → HasFree p k → MayBeBlamed p h k a x T
 free_blame p h None a x T i = i
-free_blame p h (Some k) a x T i = λ e. absurd (false≢true (sym i ∙ e))
+free_blame p h (Some k) a x T i = (i.1, λ e. absurd (false≢true (sym i.0 ∙ e)))
 
 -- only an object opens, and not at Dyn
 opens_object : (v : Val) (c b : ℕ) → v ≡ val.Obj c b → is_object v ≡ false → ⊥
@@ -71,32 +72,35 @@ module _ (p : CastScript) (h : Heap) (threads : List Thread) (s : Scope) (rs : L
 
   module _ (ts : List Ty) (vok : AreTyped p h f.values ts) where
     -- a fit of the value at j to T, at a site that is blamed only where the value may not have the type
-    fit_value_ok : (k j : ℕ) (T : Ty) (v : Val) → slice_get f.values j ≡ Some v → (loses_precision p k ≡ true → IsTyped p h v T) → Rest (slice_set ts j T) → (o : Fit) → FitOk p h v T o → Ok (fit_value k T j o f below)
-    fit_value_ok k j T v at lose w fits.Unfit i = go (loses_precision p k) refl
+    fit_value_ok : (k j : ℕ) (T : Ty) (v : Val) → IsFitSite p k T → slice_get f.values j ≡ Some v → (loses_precision p k ≡ true → IsTyped p h v T) → Rest (slice_set ts j T) → (o : Fit) → FitOk p h v T o → Ok (fit_value k T j o f below)
+    fit_value_ok k j T v site at lose w fits.Unfit i = go (loses_precision p k) refl
       where
         go : (b : Bool) → loses_precision p k ≡ b → Ok (fit_value k T j fits.Unfit f below)
         go true e = absurd (i (lose e))
-        go false e = blames_ok p h threads s rs me R f below ok (Some k) e
-    fit_value_ok k j T v at lose w (fits.Holds u) i = work_ok p h threads s rs me R f below ok f.work (slice_set f.values j u) (slice_set ts j T) (values_set p h f.values ts j u T vok i) w
-    fit_value_ok k j T v at lose w (fits.Opens c b) i =
+        go false e = blames_ok p h threads s rs me R f below ok (Some k) (e, fit_blamed p k T site)
+    fit_value_ok k j T v site at lose w (fits.Holds u) i = work_ok p h threads s rs me R f below ok f.work (slice_set f.values j u) (slice_set ts j T) (values_set p h f.values ts j u T vok i) w
+    fit_value_ok k j T v site at lose w (fits.Opens c b) i =
         goes_ok p h threads s rs me R f below ok (obligations c b (fields_of T) (work.Fitted k T j ∷ []) ++ f.work) f.values ts vok
         (group p (around s f.asked rs me) h c b (fields_of T) (work.Fitted k T j) f.work f.values ts v T i.0 i.1 i.2
-        (λ x U m e.
-        let typed : IsTyped p h (val.Obj c b) (obj (fields_of T)) = subst (λ u. IsTyped p h u (obj (fields_of T))) i.0 (subst (λ V. IsTyped p h v V) i.1 (lose e)) in
-        typed.1.1 x U m)
-        (λ left o. record { value = v; at = at; owns = o; later = w }))
+        (λ x U m. (
+          fit_blamed p k T site,
+          λ e.
+              let typed : IsTyped p h (val.Obj c b) (obj (fields_of T)) = subst (λ u. IsTyped p h u (obj (fields_of T))) i.0 (subst (λ V. IsTyped p h v V) i.1 (lose e)) in
+              typed.1.1 x U m,
+        ))
+        (λ left o. record { site = site; value = v; at = at; owns = o; later = w }))
 
-    pub fit_at_ok : (k j : ℕ) (A T : Ty) → slice_get ts j ≡ Some A → ((v : Val) → IsTyped p h v A → loses_precision p k ≡ true → IsTyped p h v T) → IsWellTypedWork p s f.asked f.work (slice_set ts j T) → MoveOk p rs me h R (fit_at p k T j (slice_get f.values j) f below)
-    fit_at_ok k j A T at lose w =
+    pub fit_at_ok : (k j : ℕ) (A T : Ty) → IsFitSite p k T → slice_get ts j ≡ Some A → ((v : Val) → IsTyped p h v A → loses_precision p k ≡ true → IsTyped p h v T) → IsWellTypedWork p s f.asked f.work (slice_set ts j T) → MoveOk p rs me h R (fit_at p k T j (slice_get f.values j) f below)
+    fit_at_ok k j A T site at lose w =
         let x = value_at p h f.values ts j A vok at in
         subst (λ o. Ok (fit_at p k T j o f below)) (sym x.1)
-        (fit_value_ok k j T x.0 x.1 (lose x.0 x.2) w (fit_of p x.0 T) (fit_ok p h ok.heap x.0 T x.2.0))
+        (fit_value_ok k j T x.0 site x.1 (lose x.0 x.2) w (fit_of p x.0 T) (fit_ok p h ok.heap x.0 T x.2.0))
 
-    pub fitted_ok : (k : ℕ) (T : Ty) (j : ℕ) → IsWellTypedFitted p (around s f.asked rs me) h [] f.work T j f.values ts → MoveOk p rs me h R (goes f below)
+    pub fitted_ok : (k : ℕ) (T : Ty) (j : ℕ) → IsWellTypedFitted p (around s f.asked rs me) h [] f.work k T j f.values ts → MoveOk p rs me h R (goes f below)
     fitted_ok k T j i = work_ok p h threads s rs me R f below ok f.work f.values (slice_set ts j T) (values_retype p h f.values ts j i.value T vok i.at (owns-all p h i.value T i.owns)) i.later
 
     pub arg_ok : (k : ℕ) (T : Ty) (j : ℕ) → IsSite p k kinds.Argument → (A : Ty) → slice_get ts j ≡ Some A → IsWellTypedWork p s f.asked f.work (slice_set ts j T) → MoveOk p rs me h R (fit_at p k T j (slice_get f.values j) f below)
-    arg_ok k T j site A at w = fit_at_ok k j A T at (λ u has e. absurd (false≢true (sym (free_site p k kinds.Argument site refl) ∙ e))) w
+    arg_ok k T j site A at w = fit_at_ok k j A T (inr (inl site)) at (λ u has e. absurd (false≢true (sym (free_site p k kinds.Argument site refl refl).0 ∙ e))) w
 
     -- of the top value
     cast_loses : (k : ℕ) (S T : Ty) → CastUse p k S T → (v : Val) → IsTyped p h v S → loses_precision p k ≡ true → IsTyped p h v T
@@ -106,6 +110,9 @@ module _ (p : CastScript) (h : Heap) (threads : List Thread) (s : Scope) (rs : L
         let low : precise x.source T ≡ true = subst (λ o. types_lose (Some x.source) o ≡ true) x.target_at (subst (λ o. types_lose o (slice_get p.types (x.site).target.0) ≡ true) x.source_at y.1) in
         has_lower p h v S T has (precise_trans S x.source T x.value low)
 
+    cast_site : (k : ℕ) (S T : Ty) → CastUse p k S T → IsFitSite p k T
+    cast_site k S T x = inl (record { site = x.site; at = x.at; of_kind = x.of_kind; target = x.target_at })
+
     cast_target : (k : ℕ) (S T : Ty) → CastUse p k S T → target_of p k ≡ Some T
     cast_target k S T x = ap (target_in p) x.at ∙ x.target_at
 
@@ -113,13 +120,13 @@ module _ (p : CastScript) (h : Heap) (threads : List Thread) (s : Scope) (rs : L
   cast_ok [] k vok i = absurd i
   cast_ok (S ∷ ts) k vok i =
       subst (λ o. Ok (fit_top p k o f below)) (sym (cast_target (S ∷ ts) vok k S i.0 i.1))
-      (fit_at_ok (S ∷ ts) vok k 0 S i.0 refl (λ v has e. cast_loses (S ∷ ts) vok k S i.0 i.1 v has e) i.2)
+      (fit_at_ok (S ∷ ts) vok k 0 S i.0 (cast_site (S ∷ ts) vok k S i.0 i.1) refl (λ v has e. cast_loses (S ∷ ts) vok k S i.0 i.1 v has e) i.2)
 
   pub result_ok : (ts : List Ty) (k : ℕ) → AreTyped p h f.values ts → OnTop ts (λ S us. (T : Ty) × (f.asked ≡ Some T) × IsSite p k kinds.Return × IsWellTypedWork p s f.asked f.work (T ∷ us)) → MoveOk p rs me h R (fit_top p k f.asked f below)
   result_ok [] k vok i = absurd i
   result_ok (S ∷ ts) k vok i =
       subst (λ o. Ok (fit_top p k o f below)) (sym i.1)
-      (fit_at_ok (S ∷ ts) vok k 0 S i.0 refl (λ u has e. absurd (false≢true (sym (free_site p k kinds.Return i.2 refl) ∙ e))) i.3)
+      (fit_at_ok (S ∷ ts) vok k 0 S i.0 (inr (inr i.2)) refl (λ u has e. absurd (false≢true (sym (free_site p k kinds.Return i.2 refl refl).0 ∙ e))) i.3)
 
   -- ---- writes
 
@@ -130,7 +137,7 @@ module _ (p : CastScript) (h : Heap) (threads : List Thread) (s : Scope) (rs : L
         sets_on p h threads s rs me R f below ok a x (holds U u) (extends_set h a x d U u at low) (heap_set p h a x d U u at low typed ok.heap) f.work vs ts vok (work_top p (around s f.asked rs me) h f.work vs ts w)
 
     free_write : is_static F ≡ false → HasFree p k
-    free_write e = has_free_to p k kinds.Write F (subst (λ b. SiteWhere p k kinds.Write F b) e wr.site) refl
+    free_write e = has_free_to p k kinds.Write F (subst (λ b. SiteWhere p k kinds.Write F b) e wr.site) refl refl
 
     fit_write : (a : ℕ) (d : Cell) → cell_at h a x ≡ Some d → is_static F ≡ false → ((c b : ℕ) → v ≡ val.Obj c b → d.ty ≡ obj (fields_of d.ty) → ⊥) → (o : Fit) → FitOk p h v d.ty o → At a x (write_fit k (has vs f) d.ty o)
     fit_write a d at e none (fits.Holds u) i = set_ok a d at d.ty (precise_refl d.ty) u i
@@ -164,7 +171,7 @@ module _ (p : CastScript) (h : Heap) (threads : List Thread) (s : Scope) (rs : L
       where
         go : (S' : Ty) → IsTyped p h (val.Obj c a) S' → FieldUse p m S' x F → HasFree p m
         go (obj fs) typed u = let b = typed.1.1 x F u.0 in let z : None ≡ Some b.cell = sym at ∙ b.at in absurd cc
-        go dyn typed u = has_free p m kinds.Member u.1 refl
+        go dyn typed u = has_free p m kinds.Member u.1 refl refl
         go S' typed u = absurd u
 
     -- the field isn't fully static, and its recorded type isn't Dyn
@@ -189,7 +196,7 @@ module _ (p : CastScript) (h : Heap) (threads : List Thread) (s : Scope) (rs : L
 
   -- a receiver that is no object is Dyn
   other_free : (m : Option ℕ) (r : Val) (S : Ty) (x : List ℕ) (F : Ty) → is_object r ≡ false → IsTyped p h r S → FieldUse p m S x F → HasFree p m
-  other_free m r dyn x F e i u = has_free p m kinds.Member u.1 refl
+  other_free m r dyn x F e i u = has_free p m kinds.Member u.1 refl refl
   other_free m (val.Obj d a) (obj fs) x F e i u = absurd (false≢true (sym e))
   other_free m r (obj fs) x F e i u = absurd i.1
   other_free m r S x F e i u = absurd u

@@ -1,5 +1,6 @@
 -- The rows of objects, calls, threads and prints.
 use Rattle.std.specs.Prelude.{ℕ, zero, suc, ◌+◌, Bool, true, ◌&&◌, List, [], ◌∷◌, ◌++◌, length, Option, Some, None, is_some, nat_le, nat_eq, if◌then◌else◌, slice_get}
+use Rattle.mono_syntax.specs.Limits.{most_threads}
 use Rattle.mono_syntax.specs.Ty.{Ty, fun, Tys, no_tys, more_tys, Fields, no_fields, more_fields}
 use Rattle.mono_syntax.specs.declared.value.Val.{Val}
 use Rattle.mono_syntax.specs.declared.value.Val.TheVariants as val
@@ -117,7 +118,7 @@ fall k f below = goes (record f { work = leaving k ++ f.work; values = val.Nil �
 -- the thread of the next number runs the call, and its name and the frame's list have that number
 abbrev pub begin_at : ℕ → List ℕ → Ty → Option CastFunction → Option (List Val × List Val) → Frame → List Frame → Outcome
 begin_at made x m (Some d) (Some (args, v ∷ rest)) f below =
-    if nat_le 256 made then fails ends.ThreadLimit
+    if nat_le most_threads made then fails ends.ThreadLimit
     else outcome.Moves
     (change.Begins (record { asked = Some (result_of m); state = state.Running (called d m args) []; steps = 0 }))
     (state.Running (record f { handles = update f.handles x (Some made); started = f.started ++ made ∷ []; values = rest }) below)

@@ -4,6 +4,7 @@ use Rattle.mono_syntax.specs.Ty.{Ty, dyn, int, bool, str, nil, fun, obj, Fields}
 use Rattle.mono_syntax.specs.declared.value.Val.{Val}
 use Rattle.mono_syntax.specs.declared.value.Val.TheVariants as val
 use Rattle.mono_syntax.specs.declared.cast.CastFunction.{CastFunction}
+use Rattle.mono_syntax.specs.declared.cast.CastClass.{CastClass}
 use Rattle.mono_syntax.specs.declared.cast.CastScript.{CastScript}
 use Rattle.mono_tree.specs.FieldNames.{names_of}
 use Rattle.mono_tree.specs.Precision.{precise}
@@ -57,10 +58,21 @@ IsValueOf p h (val.Obj c a) = (ns : List (List ℕ)) × (shape_at h a ≡ Some (
 IsValueOf p h (val.Fun g m) = IsFunctionOf p g m
 IsValueOf p h v = Unit {0}
 
--- the heap is one of the script: its values are, and an object has the field names of its class
+-- the heap is one of the script: its values are, and an object is of a class of the script and has its field names
 pub record IsHeapOf (p : CastScript) (h : Heap) : Type 0 where
   pub values : (a : ℕ) (x : List ℕ) (c : Cell) → cell_at h a x ≡ Some c → IsValueOf p h c.value
   pub named : (a c : ℕ) (ns : List (List ℕ)) → shape_at h a ≡ Some (c, ns) → ns ≡ class_names p c
+  pub classes : (a c : ℕ) (ns : List (List ℕ)) → shape_at h a ≡ Some (c, ns) → (d : CastClass) × (slice_get p.classes c ≡ Some d)
+
+-- values of the script
+abbrev pub AreValuesOf : CastScript → Heap → List Val → Type 0
+AreValuesOf p h [] = Unit {0}
+AreValuesOf p h (v ∷ vs) = IsValueOf p h v × AreValuesOf p h vs
+
+-- lines of values of the script
+abbrev pub AreLinesOf : CastScript → Heap → List (List Val) → Type 0
+AreLinesOf p h [] = Unit {0}
+AreLinesOf p h (l ∷ ls) = AreValuesOf p h l × AreLinesOf p h ls
 
 -- a value of the script that has the type
 abbrev pub IsTyped : CastScript → Heap → Val → Ty → Type 0

@@ -1,5 +1,6 @@
 -- The rows of items that look at no cell and at no other thread. A row is given the frame without its item.
 use Rattle.std.specs.Prelude.{ℕ, ◌+◌, min, Bool, true, false, not, List, [], ◌∷◌, ◌++◌, length, map, Option, Some, None, pos, slice_get, slice_set}
+use Rattle.mono_syntax.specs.Limits.{greatest_integer}
 use Rattle.mono_syntax.specs.Ty.{Ty}
 use Rattle.mono_syntax.specs.CastExpr.{CastExpr, number, text, truth, nil, local, function, neg, negation, binary, both, either, read, make, call, fit, join}
 use Rattle.mono_syntax.specs.CastExprView.{cast_exprs_list}
@@ -150,7 +151,7 @@ handle_at k (Some (Some t)) f below = goes (does (work.Join t ∷ []) f) below
 
 -- the grammar gives no literal over 2^47-1; the bound makes the row total
 abbrev pub literal : ℕ → Val
-literal n = val.Int (pos (min n 140737488355327))
+literal n = val.Int (pos (min n greatest_integer))
 
 abbrev pub eval : CastScript → CastExpr → Frame → List Frame → Outcome
 eval p (number n) f below = puts (literal n) f below

@@ -1,5 +1,6 @@
 -- The configuration, one step of one thread, and a run over a list of picks.
 use Rattle.std.specs.Prelude.{◌≡◌, ℕ, ◌+◌, ◌*◌, ◌/◌, ◌%◌, ◌^◌, Bool, true, false, ◌&&◌, List, [], ◌∷◌, ◌++◌, length, Option, Some, None, is_some, unwrap_or, nat_lt, if◌then◌else◌, slice_get, slice_set}
+use Rattle.mono_syntax.specs.Limits.{most_items}
 use Rattle.mono_syntax.specs.declared.value.Val.{Val}
 use Rattle.mono_syntax.specs.declared.cast.CastScript.{CastScript}
 use Rattle.cast_machine.specs.declared.data.End.{End}
@@ -105,7 +106,7 @@ placed t th s n c = record c { threads = slice_set c.threads t (record th { stat
 -- a step that is counted: it is taken, unless the thread would have too many items
 abbrev pub counted : ℕ → Thread → Change → State → Configuration → Configuration
 counted t th d s c =
-    if nat_lt 16384 (items_of s)
+    if nat_lt most_items (items_of s)
     then placed t th (state.Failing ends.DepthLimit) (th.steps + 1) c
     else placed t th (fueled c.settings.fuel (th.steps + 1) s) (th.steps + 1) (changed d c)
 

@@ -1,10 +1,11 @@
 -- A well-typed configuration.
-use Rattle.std.specs.Prelude.{◌≡◌, ℕ, ◌<◌, false, List, [], ◌∷◌, Option, Some, None, slice_get, unwrap_or}
+use Rattle.std.specs.Prelude.{◌≡◌, ℕ, ◌<◌, List, [], ◌∷◌, Option, Some, None, slice_get, unwrap_or}
 use Rattle.mono_syntax.specs.Ty.{Ty, dyn}
 use Rattle.mono_syntax.specs.declared.value.Val.{Val}
 use Rattle.mono_syntax.specs.declared.cast.CastScript.{CastScript}
 use Rattle.mono_syntax.specs.declared.cast.NamedType.{NamedType}
-use Rattle.mono_tree.specs.Sites.{loses_precision}
+use Rattle.mono_syntax.specs.declared.leaf.Kind.TheVariants as kinds
+use Rattle.mono_tree.specs.Sites.{IsSite}
 use Rattle.mono_tree.specs.TypedPrograms.{Scope, type_of_name}
 use Rattle.cast_machine.specs.declared.data.End.{End}
 use Rattle.cast_machine.specs.declared.data.End.TheVariants as ends
@@ -15,7 +16,8 @@ use Rattle.cast_machine.specs.declared.data.Thread.{Thread}
 use Rattle.cast_machine.specs.Maps.{lookup}
 use Rattle.cast_machine.specs.Heap.{Heap}
 use Rattle.cast_machine.specs.Step.{Configuration}
-use Rattle.cast_machine.specs.HeapTyping.{IsAsPrecise, IsWellTypedHeap, IsHeapOf, IsTyped, AreTyped}
+use Rattle.cast_machine.specs.HeapTyping.{IsAsPrecise, IsWellTypedHeap, IsHeapOf, IsTyped, AreTyped, AreLinesOf}
+use Rattle.cast_machine.specs.BlamedSites.{IsRightBlame}
 use Rattle.cast_machine.specs.WorkTyping.{IsLater, Around, IsWellTypedWork, IsWellTypedTop}
 
 -- ---- names of a frame
@@ -83,9 +85,13 @@ IsWellTypedStack p results me h (Some a) (f ∷ below) r = IsWellTypedLower p re
 
 -- ---- threads
 
--- no Blame of a Cast site that only loses precision
+-- An end names a site that is there: an error of arithmetic an Arithmetic site, an unbound name a Name, and a blame a site
+-- that can be blamed and isn't a Cast that only loses precision.
 abbrev pub IsRightEnd : CastScript → End → Type 0
-IsRightEnd p (ends.Blame k) = loses_precision p k ≡ false
+IsRightEnd p (ends.Blame k) = IsRightBlame p k
+IsRightEnd p (ends.ZeroDivision k) = IsSite p k kinds.Arithmetic
+IsRightEnd p (ends.Overflow k) = IsSite p k kinds.Arithmetic
+IsRightEnd p (ends.Unbound k) = IsSite p k kinds.Name
 IsRightEnd p e = Unit {0}
 
 abbrev pub AreRightEnds : CastScript → Option End → Type 0
@@ -119,8 +125,10 @@ pub record IsWellTyped (p : CastScript) (c : Configuration) : Type 0 where
   pub heap : IsWellTypedHeap c.heap
   -- the cells hold values of this heap and script
   pub own : IsHeapOf p c.heap
+  -- what was printed are values of this heap and script
+  pub lines : AreLinesOf p c.heap c.lines
   -- each item finds on its value list values of the types that it asks for, each bound name has its type, each finished
-  -- value has its asked type, and no thread fails by a cast that only loses precision
+  -- value has its asked type, and each end of a thread names a site of its kind, no cast that only loses precision
   pub threads : (t : ℕ) (th : Thread) → slice_get c.threads t ≡ Some th → IsWellTypedState p (results_of c.threads) t c.heap (result_type th) th.state
   pub end : AreRightEnds p c.end
   pub lives : c.end ≡ None → (t : ℕ) (th : Thread) → slice_get c.threads t ≡ Some th → Lives t th.state

@@ -18,6 +18,7 @@ use Rattle.cast_machine.specs.declared.data.Work.{Work}
 use Rattle.cast_machine.specs.declared.data.Work.TheVariants as work
 use Rattle.cast_machine.specs.Heap.{Heap, cell_at, shape_at}
 use Rattle.cast_machine.specs.Cells.{blamed}
+use Rattle.cast_machine.specs.BlamedSites.{IsBlamedSite, IsFitSite}
 use Rattle.cast_machine.specs.HeapTyping.{IsAsPrecise, IsBelow, IsFunctionOf}
 
 -- ---- work that looks at no heap
@@ -123,10 +124,10 @@ pub record Owns (h : Heap) (left : List Pending) (v : Val) (t : Ty) : Type 0 whe
   pub shape : shape_at h base ≡ Some (class, names_of fields)
   pub done : (x : List ℕ) (u : Ty) → HasField fields x u → IsPending left base x u ⊎ IsBelow h base x u
 
--- a site that only loses precision stands only below obligations that are met
+-- the site can be blamed, and one that only loses precision stands only below obligations that are met
 abbrev pub MayBeBlamed : CastScript → Heap → Option ℕ → ℕ → List ℕ → Ty → Type 0
 MayBeBlamed p h None a x t = ⊥
-MayBeBlamed p h (Some k) a x t = loses_precision p k ≡ true → IsBelow h a x t
+MayBeBlamed p h (Some k) a x t = IsBlamedSite p k × (loses_precision p k ≡ true → IsBelow h a x t)
 
 -- an obligation at a field that is there, of an object of the class, above a site
 pub record IsWellTypedObligation (p : CastScript) (h : Heap) (rest : List Work) (c a : ℕ) (x : List ℕ) (t : Ty) : Type 0 where
@@ -154,7 +155,9 @@ pub record Around : Type 0 where
 abbrev pub Later : CastScript → Around → List Work → List Ty → Type 0
 Later p q rest ts = IsWellTypedWork p q.scope q.asked rest ts
 
-pub record IsWellTypedFitted (p : CastScript) (q : Around) (h : Heap) (left : List Pending) (rest : List Work) (t : Ty) (j : ℕ) (vs : List Val) (ts : List Ty) : Type 0 where
+-- a fit to t at site k of the value at place j; t is the target of a Cast site
+pub record IsWellTypedFitted (p : CastScript) (q : Around) (h : Heap) (left : List Pending) (rest : List Work) (k : ℕ) (t : Ty) (j : ℕ) (vs : List Val) (ts : List Ty) : Type 0 where
+  pub site : IsFitSite p k t
   pub value : Val
   pub at : slice_get vs j ≡ Some value
   pub owns : Owns h left value t
@@ -181,7 +184,7 @@ IsWellTypedTop p q h left (work.Obligation c a x t None ∷ rest) vs ts =
     IsWellTypedObligation p h rest c a x t × IsWellTypedTop p q h (record { object = a; field = x; to = t } ∷ left) rest vs ts
 IsWellTypedTop p q h left (work.Obligation c a x t (Some r) ∷ rest) vs ts =
     IsWellTypedObligation p h rest c a x t × Owns h left r.value r.ty × IsWellTypedTop p q h (record { object = a; field = x; to = t } ∷ []) rest vs ts
-IsWellTypedTop p q h left (work.Fitted k t j ∷ rest) vs ts = IsWellTypedFitted p q h left rest t j vs ts
+IsWellTypedTop p q h left (work.Fitted k t j ∷ rest) vs ts = IsWellTypedFitted p q h left rest k t j vs ts
 IsWellTypedTop p q h left (work.Write m k f x (Some r) ∷ rest) (o ∷ v ∷ vs) (t ∷ u ∷ ts) = IsWellTypedFittedWrite p q h left rest m k f x r v t u ts
 IsWellTypedTop p q h left (work.Write m k f x (Some r) ∷ rest) vs ts = ⊥
 IsWellTypedTop p q h left (work.Join t ∷ rest) vs ts = IsWellTypedJoin p q left rest t ts

@@ -173,6 +173,15 @@ pub enum Fit {
     Unfit,
 }
 
+/// What an operator makes of two integers: an integer that is in range, a truth value, or an error.
+#[derive(Clone, Copy, Debug, PartialEq, Eq)]
+pub enum Counted {
+    Int(i64),
+    Truth(bool),
+    ZeroDivision,
+    Overflow,
+}
+
 /// What an operator gives.
 #[derive(Drop)]
 pub enum Operated {

@@ -8,7 +8,7 @@ pub mod laws;
 mod map;
 
 pub use data::{
-    Cell, Change, End, Fit, Frame, Object, Observation, Operated, Outcome, Ready, Settings, State,
-    Thread, Verdict, Work,
+    Cell, Change, Counted, End, Fit, Frame, Object, Observation, Operated, Outcome, Ready,
+    Settings, State, Thread, Verdict, Work,
 };
 pub use map::NameMap;

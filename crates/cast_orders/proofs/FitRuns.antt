@@ -46,7 +46,7 @@ heap_ok p d ok = record { letter = ok.heap; own = ok.own }
 -- the value below a Fitted has its type
 fitted_has : (p : CastScript) (d : Configuration) → IsWellTyped p d → (t : ℕ) (g : Frame) → IsWellTypedFrame p (results_of d.threads) t d.heap g → (k : ℕ) (u : Ty) (j : ℕ) (items : List Work) → g.work ≡ work.Fitted k u j ∷ items → (v : Val) → slice_get g.values j ≡ Some v → HasType d.heap v u
 fitted_has p d ok t g fok k u j items w v at =
-    let tok : IsWellTypedFitted p (around fok.scope g.asked (results_of d.threads) t) d.heap [] items u j g.values fok.types = subst (λ l. IsWellTypedTop p (around fok.scope g.asked (results_of d.threads) t) d.heap [] l g.values fok.types) w fok.work in
+    let tok : IsWellTypedFitted p (around fok.scope g.asked (results_of d.threads) t) d.heap [] items k u j g.values fok.types = subst (λ l. IsWellTypedTop p (around fok.scope g.asked (results_of d.threads) t) d.heap [] l g.values fok.types) w fok.work in
     subst (λ x. HasType d.heap x u) (some_is (sym tok.at ∙ at)) (owns-all p d.heap tok.value u tok.owns).1
 
 -- ---- how much work there is

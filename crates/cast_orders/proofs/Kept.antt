@@ -49,5 +49,6 @@ heap_kept p k h b typed ok = record {
   own = record {
     values = λ a x c e. let d = cell_above k h a x c b e in own_kept p k h c.value (d.0).value b (d.2).value ((ok.own).values a x d.0 d.1);
     named = λ a c ns e. (ok.own).named a c ns (sym (shape_below k h a b) ∙ e);
+    classes = λ a c ns e. (ok.own).classes a c ns (sym (shape_below k h a b) ∙ e);
   };
 }

@@ -1,4 +1,5 @@
 -- What stands in a thread's place after its step, from what the row of its top item says.
+use Rattle.mono_syntax.specs.Limits.{most_items}
 use Rattle.std.proofs.Common.{◌≡◌, ℕ, ◌+◌, ◌++◌, Bool, true, false, ◌&&◌, List, [], ◌∷◌, Option, Some, None, is_some, nat_lt, refl, sym, ◌∙◌, subst, slice_get, slice_set}
 use Rattle.std.proofs.lemmas.Bool.{false≢true}
 use Rattle.mono_syntax.specs.declared.cast.CastScript.{CastScript}
@@ -59,7 +60,7 @@ module _ (c : Configuration) (t : ℕ) (old : Thread) (at : slice_get c.threads 
   moved_stands outcome.NoRow i = tt
   moved_stands outcome.Waits i = tt
   moved_stands (outcome.Moves d st) i =
-      on_test (nat_lt 16384 (items_of st)) _ _ (λ new. StandsAfter t Q (Some new))
+      on_test (nat_lt most_items (items_of st)) _ _ (λ new. StandsAfter t Q (Some new))
       (λ many. placed_stands change.Same (state.Failing ends.DepthLimit) (old.steps + 1) deep)
       (λ few. placed_stands d (fueled c.settings.fuel (old.steps + 1) st) (old.steps + 1) (fueled_stands (heap_after d c.heap) c.settings.fuel (old.steps + 1) st i))
 

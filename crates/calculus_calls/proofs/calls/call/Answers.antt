@@ -1,6 +1,6 @@
 use Rattle.std.proofs.Common.{◌∙◌, ap, length, Some}
 use Rattle.mono_syntax.specs.declared.value.Val.{Val}
-use Rattle.calculus_data.specs.Entries.{entering, call_of}
+use Rattle.calculus_data.specs.computed.Entries.{entering, call_of}
 use Rattle.cast_machine.specs.Calls.{call_row}
 use Rattle.calculus_data.proofs.Taken.{call_some, ok_same}
 use Rattle.calculus_calls.proofs.calls.call.Goals as goal

@@ -3,7 +3,7 @@ use Rattle.mono_syntax.specs.Ty.{Ty, fun}
 use Rattle.mono_syntax.specs.TyView.{tys, ty_of}
 use Rattle.mono_syntax.specs.declared.value.Val.{Val}
 use Rattle.cast_machine.specs.declared.data.Work.{Work}
-use Rattle.calculus_data.specs.Entries.{entering, call_of, function_call}
+use Rattle.calculus_data.specs.computed.Entries.{entering, call_of, function_call}
 use Rattle.calculus_data.proofs.Taken.{function_called, ok_same}
 use Rattle.calculus_calls.proofs.calls.call_of.Goals as goal
 

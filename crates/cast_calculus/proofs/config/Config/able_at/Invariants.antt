@@ -1,5 +1,5 @@
 use Rattle.std.proofs.Common.{◌≡◌, drop, slice_get}
-use Rattle.cast_calculus.specs.Runnable.{steps_from}
+use Rattle.cast_calculus.specs.computed.Runnable.{steps_from}
 use Rattle.cast_calculus.proofs.config.Config.able_at.Given as goal
 
 abbrev pub invariant-loop-t : goal.invariant-loop-t

@@ -1,5 +1,5 @@
 use Rattle.std.proofs.Common.{◌≡◌, ◌-◌}
-use Rattle.cast_machine.specs.Seeded.{seeded}
+use Rattle.cast_machine.specs.computed.Seeded.{seeded}
 use Rattle.cast_machine.specs.Typing.{IsWellTyped}
 use Rattle.cast_calculus.proofs.config.Config.run_by_seed.Given as goal
 

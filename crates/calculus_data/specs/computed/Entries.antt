@@ -1,4 +1,4 @@
--- What a tested call becomes.
+-- Computed: what the code of a tested call computes.
 use Rattle.std.specs.Prelude.{ℕ, List, [], ◌∷◌, ◌++◌, length, Option, Some, None, nat_eq, if◌then◌else◌}
 use Rattle.mono_syntax.specs.Ty.{Ty, fun}
 use Rattle.mono_syntax.specs.TyView.{tys}

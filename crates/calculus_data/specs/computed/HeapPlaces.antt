@@ -1,4 +1,4 @@
--- Where the object at an address stands in the list of objects.
+-- Computed: what the search for the object at an address computes, its place in the list of objects.
 use Rattle.std.specs.Prelude.{ℕ, ◌+◌, ◌-◌, ◌^◌, min, List, [], ◌∷◌, Option, Some, None, nat_eq, nat_lt, if◌then◌else◌}
 use Rattle.cast_machine.specs.Heap.{Heap, size}
 

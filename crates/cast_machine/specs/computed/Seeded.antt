@@ -1,4 +1,4 @@
--- The run in the order of a seed, computed.
+-- Computed: what the code that runs a script in the order of a seed computes.
 use Rattle.std.specs.Prelude.{ℕ, zero, suc, length, Option, Some, None, is_some, if◌then◌else◌, slice_get}
 use Rattle.mono_syntax.specs.declared.cast.CastScript.{CastScript}
 use Rattle.cast_machine.specs.Step.{Configuration, picked, next_seed, pick, runnable_threads}

@@ -1,20 +1,13 @@
--- A thread is runnable where it has a step. In a run of a well-typed script it has one unless it is over, or waits for
--- another thread at a join or at the end of a frame.
+-- Computed: what the code of `can_step` computes. A thread is runnable where it has a step. In a run of a well-typed script it
+-- has one unless it is over, or waits for another thread at a join or at the end of a frame.
 use Rattle.std.specs.Prelude.{ℕ, ◌+◌, Bool, true, false, not, ◌&&◌, ◌||◌, List, [], ◌∷◌, Option, Some, None, is_some, slice_get, if◌then◌else◌}
 use Rattle.cast_machine.specs.declared.data.Frame.{Frame}
 use Rattle.cast_machine.specs.declared.data.Thread.{Thread}
 use Rattle.cast_machine.specs.declared.data.State.{State}
 use Rattle.cast_machine.specs.declared.data.State.TheVariants as state
 use Rattle.cast_machine.specs.declared.data.Work.{Work}
-use Rattle.cast_machine.specs.declared.data.Work.TheVariants as work
-use Rattle.cast_machine.specs.Calls.{finished, all_finished}
+use Rattle.cast_machine.specs.Safety.{waits}
 use Rattle.cast_machine.specs.Step.{Configuration, heeds}
-
--- an item that waits for a thread that isn't finished
-abbrev pub waits : List Thread → Work → Frame → Bool
-waits threads (work.Join t) f = not (is_some (finished threads t))
-waits threads work.Leave f = not (all_finished threads f.started)
-waits threads i f = false
 
 abbrev pub top_runs : Configuration → List Work → Frame → Bool
 top_runs c [] f = false

@@ -1,4 +1,4 @@
--- The item that owns the obligations above it.
+-- Computed: what the search for the item that owns the obligations above it computes.
 use Rattle.std.specs.Prelude.{ℕ, Option, Some, None}
 use Rattle.cast_machine.specs.declared.data.Work.{Work}
 use Rattle.cast_machine.specs.declared.data.Work.TheVariants as work

@@ -1,0 +1,3 @@
+pub mod HeapPlaces
+pub mod Entries
+pub mod Owners
