@@ -9,7 +9,7 @@ use Rattle.mono_syntax.specs.declared.refusal.Refusal.{Refusal}
 use Rattle.mono_syntax.specs.declared.tree.ClassDef.{ClassDef}
 use Rattle.script_rules.specs.Definitions.{class_named}
 use Rattle.class_types.specs.FoundFaults.{first_from, found}
-use Rattle.class_types.specs.Leading.{marked_at, is_marked, word_fault, recursive_at, leads_now, put_mark, mark, mark_round, unmarked, AreLeading}
+use Rattle.class_types.specs.Leading.{marked_at, is_marked, word_fault, recursive_at, leads_now, put_mark, mark, mark_round, visit_mark, visit_marks, unmarked, AreLeading}
 use Rattle.class_types.specs.Made.{place_from, place_in, names_of_classes}
 use Rattle.script_rules.specs.Recursion.{Leads, here, through, field_names}
 use Rattle.class_types.proofs.Gets.{some_is, none_some, set-other, get-within}
@@ -249,6 +249,22 @@ module _ (cs : List ClassDef) (y : List ℕ) where
       go : (o : Option ℕ) → marked_at (replicate n false) o ≡ true → Leads cs x y
       go None e = absurd cc
       go (Some i) e = absurd (let f : true ≡ false = sym e ∙ none n i in cc)
+
+  visit-one : (marks : List Bool) (at : ℕ) (o : Option ClassDef) → slice_get cs at ≡ o → AreSound marks → AreSound (visit_mark (names_of_classes cs) y o marks at)
+  visit-one marks at None e s = s
+  visit-one marks at (Some d) e s = mark-sound marks d at e s
+
+  pub visit-sound : (order : List ℕ) (marks : List Bool) → AreSound marks → AreSound (visit_marks (names_of_classes cs) y cs order marks)
+  visit-sound [] marks s = s
+  visit-sound (at ∷ order) marks s = visit-sound order _ (visit-one marks at (slice_get cs at) refl s)
+
+  one-length : (marks : List Bool) (at : ℕ) (o : Option ClassDef) → length (visit_mark (names_of_classes cs) y o marks at) ≡ length marks
+  one-length marks at None = refl
+  one-length marks at (Some d) = step-length marks d at
+
+  pub visit-length : (order : List ℕ) (marks : List Bool) → length (visit_marks (names_of_classes cs) y cs order marks) ≡ length marks
+  visit-length [] marks = refl
+  visit-length (at ∷ order) marks = visit-length order _ ∙ one-length marks at (slice_get cs at)
 
   pub whole-sound : (marks next : List Bool) → AreSound marks → next ≡ mark_round (names_of_classes cs) y cs marks 0 → AreSound next
   whole-sound marks next s e = subst AreSound (sym e) (round-sound cs marks 0 (λ j d is. let move : j + 0 ≡ j = omega arith in ap (slice_get cs) move ∙ is) s)

@@ -1,6 +1,7 @@
 pub mod MadeTurns
 pub mod OrderTurns
 pub mod Gets
+pub mod FirstLaws
 pub mod RoundLaws
 pub mod MadeLaws
 pub mod WritesLaws
@@ -12,9 +13,11 @@ pub mod SizedLaws
 pub mod FoundLaws
 pub mod WalkLaws
 pub mod BlockLaws
+pub mod GraphLaws
 pub mod NameLaws
 pub mod OrderLaws
 pub mod SizeFaultLaws
 pub mod LeadingLaws
+pub mod RankLaws
 pub mod RecursionLaws
 pub mod OrderedNames

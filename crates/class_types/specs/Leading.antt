@@ -1,12 +1,12 @@
 -- How the classes are found that lead to a class: in rounds, in which each class is marked that names a marked one.
-use Rattle.std.specs.Prelude.{◌≡◌, ℕ, ◌+◌, Bool, true, false, ◌||◌, List, [], ◌∷◌, Option, Some, None, slice_get, slice_set, unwrap_or, is_some, bytes_eq, if◌then◌else◌}
+use Rattle.std.specs.Prelude.{◌≡◌, ◌⊎◌, ℕ, ◌+◌, Bool, true, false, ◌||◌, List, [], ◌∷◌, Option, Some, None, slice_get, slice_set, unwrap_or, is_some, bytes_eq, if◌then◌else◌}
 use Rattle.mono_syntax.specs.declared.leaf.Place.{Place}
 use Rattle.mono_syntax.specs.declared.leaf.Word.{Word}
 use Rattle.mono_syntax.specs.declared.refusal.Reason.TheVariants.{RecursiveClass}
 use Rattle.mono_syntax.specs.declared.refusal.Refusal.{Refusal}
 use Rattle.mono_syntax.specs.declared.tree.ClassDef.{ClassDef}
-use Rattle.mono_tree.specs.declared.size.Size.{Size}
 use Rattle.script_rules.specs.Definitions.{class_named}
+use Rattle.script_rules.specs.FirstFault.{no_later}
 use Rattle.class_types.specs.FoundFaults.{first_from, found, In}
 use Rattle.class_types.specs.Made.{place_in, names_of_classes}
 use Rattle.script_rules.specs.Recursion.{Leads, field_names}
@@ -42,6 +42,16 @@ abbrev pub mark_round : List (List ℕ) → List ℕ → List ClassDef → List 
 mark_round ns y [] marks at = marks
 mark_round ns y (d ∷ ds) marks at = mark_round ns y ds (mark ns y d marks at) (at + 1)
 
+-- the class at a place, where one stands there
+abbrev pub visit_mark : List (List ℕ) → List ℕ → Option ClassDef → List Bool → ℕ → List Bool
+visit_mark ns y None marks at = marks
+visit_mark ns y (Some d) marks at = mark ns y d marks at
+
+-- the classes at these places, one after the other
+abbrev pub visit_marks : List (List ℕ) → List ℕ → List ClassDef → List ℕ → List Bool → List Bool
+visit_marks ns y cs [] marks = marks
+visit_marks ns y cs (at ∷ order) marks = visit_marks ns y cs order (visit_mark ns y (slice_get cs at) marks at)
+
 abbrev pub unmarked : List Bool → ℕ
 unmarked [] = 0
 unmarked (true ∷ marks) = unmarked marks
@@ -60,13 +70,14 @@ pub record LeadsBack (cs : List ClassDef) (d : ClassDef) (p : Place) : Type 0 wh
   pub leads : Leads cs name.text d.name.text
   pub place : p ≡ name.place
 
--- the first of the faults so far and those of the class at a place, where it is the first of its name
+-- the first fault so far doesn't come after this one
+abbrev pub IsCovered : Option Refusal → Refusal → Type 0
+IsCovered so_far r = (s : Refusal) × (so_far ≡ Some s) × (no_later s r ≡ true)
+
+-- the first of the faults so far and those of the class at a place, where it is the first of its name; of those that come
+-- after the first so far some may be left out
 pub record AddsFaults (cs : List ClassDef) (d : ClassDef) (at : ℕ) (so_far more : Option Refusal) : Type 0 where
   pub faults : List Refusal
   pub first : more ≡ first_from so_far faults
   pub sound : (r : Refusal) → In r faults → LeadsBack cs d r.place × (r.reason ≡ RecursiveClass)
-  pub complete : (p : Place) → place_in (names_of_classes cs) d.name.text ≡ Some at → LeadsBack cs d p → In (recursive_at p) faults
-
--- a size is known at this place
-abbrev pub IsSized : List (Option Size) → ℕ → Type 0
-IsSized sizes at = (z : Size) × (slice_get sizes at ≡ Some (Some z))
+  pub complete : (p : Place) → place_in (names_of_classes cs) d.name.text ≡ Some at → LeadsBack cs d p → In (recursive_at p) faults ⊎ IsCovered so_far (recursive_at p)

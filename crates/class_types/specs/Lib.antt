@@ -1,5 +1,6 @@
 pub mod Known
 pub mod Made
+pub mod Firsts
 pub mod Placed
 pub mod Rounds
 pub mod Order
@@ -8,3 +9,4 @@ pub mod NewNames
 pub mod FoundFaults
 pub mod Leading
 pub mod Measured
+pub mod Ranks

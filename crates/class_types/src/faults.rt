@@ -6,9 +6,9 @@ ghost use Rattle.script_rules.specs.SourceParts.{annotation, arguments, callable
 
 use crate::first::sooner;
 use crate::measure::size_of;
-use mono_tree::Size;
 use crate::names::ClassNames;
 use mono_syntax::{Ann, AnnForm, Place, Reason, Refusal};
+use mono_tree::Size;
 
 /// The sizes of the types of classes, by the classes' names.
 #[derive(Drop)]

@@ -4,7 +4,7 @@ ghost use Rattle.script_rules.specs.FirstFault.{no_later, sooner};
 use mono_syntax::{Place, Reason, Refusal};
 
 /// Whether the first fault doesn't come after the second.
-fn no_later(a: Refusal, b: Refusal) -> bool
+pub fn no_later(a: Refusal, b: Refusal) -> bool
     ensures { result ≡ no_later a b }
 {
     let (at, other) = (a.place, b.place);

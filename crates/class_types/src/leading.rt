@@ -1,14 +1,24 @@
-ghost use Rattle.std.specs.Prelude.{◌≡◌, ◌≤◌, length, map, replicate, false, None, IfOk};
+ghost use Rattle.std.specs.Prelude.{◌≡◌, ◌≤◌, ◌↔◌, IsTrue, length, map, replicate, slice_get, false, Some, None, IfOk};
 ghost use Rattle.mono_syntax.specs.AnnView.{anns};
 ghost use Rattle.class_types.specs.FoundFaults.{first_from, found};
-ghost use Rattle.class_types.specs.Leading.{is_marked, word_fault, leads_now, mark, mark_round, unmarked, AreLeading};
-ghost use Rattle.class_types.specs.Made.{names_of_classes};
+ghost use Rattle.class_types.specs.Leading.{is_marked, word_fault, leads_now, mark, mark_round, visit_mark, visit_marks, unmarked, AreLeading};
+ghost use Rattle.class_types.specs.Made.{names_of_classes, place_in};
 ghost use Rattle.script_rules.specs.Recursion.{names_in, names_in_all, field_names};
 
 use crate::first::sooner;
 use crate::names::ClassNames;
 use mono_syntax::{Ann, AnnForm, ClassDef, FieldDef, Name, Reason, Refusal, Word};
 use std::alloc::{AllocError, Global};
+
+/// Whether a class is the first of its name.
+pub fn is_first(names: &ClassNames, name: &Name, at: usize) -> bool
+    ensures { IsTrue result ↔ (place_in names.now name.now ≡ Some at) }
+{
+    match names.place(name) {
+        Some(place) => place == at,
+        None => false,
+    }
+}
 
 /// Whether the class of this name is marked.
 fn is_marked(names: &ClassNames, marks: &[bool], name: &Name) -> bool
@@ -133,6 +143,39 @@ fn mark_round(
     marks
 }
 
+/// The class at a place, where one stands there.
+fn visit(
+    names: &ClassNames,
+    target: &Name,
+    classes: &[&ClassDef],
+    marks: Vec<bool>,
+    at: usize,
+) -> Vec<bool>
+    ensures { result.items ≡ visit_mark names.now target.now (slice_get (map (λ d. d.now) classes.now) at) marks.items at }
+{
+    match classes.get(at) {
+        Some(class) => mark(names, target, class, marks, at),
+        None => marks,
+    }
+}
+
+/// The classes at these places, one after the other.
+fn visited(
+    names: &ClassNames,
+    target: &Name,
+    classes: &[&ClassDef],
+    order: &[usize],
+    marks: Vec<bool>,
+) -> Vec<bool>
+    ensures { result.items ≡ visit_marks names.now target.now (map (λ d. d.now) classes.now) order.now marks.items }
+{
+    let mut marks = marks;
+    for at in order {
+        marks = visit(names, target, classes, marks, *at);
+    }
+    marks
+}
+
 fn unmarked(marks: &[bool]) -> usize
     ensures count { result ≡ unmarked marks.now }
     ensures within { result ≤ length marks.now }
@@ -156,17 +199,20 @@ fn no_marks(alloc: Global, count: usize) -> Result<Vec<bool>, AllocError>
     Ok(marks)
 }
 
-/// Marks on the classes that lead to the class of this name.
+/// Marks on the classes that lead to the class of this name. The order of the first visits decides how many rounds there
+/// are: one, where each class that leads there comes after one that it names.
 pub fn leading(
     alloc: Global,
     names: &ClassNames,
     classes: &[&ClassDef],
     target: &Name,
+    order: &[usize],
 ) -> Result<Vec<bool>, AllocError>
     requires { names.now ≡ names_of_classes (map (λ d. d.now) classes.now) }
     ensures { IfOk result (λ r. AreLeading (map (λ d. d.now) classes.now) target.now r.items) }
 {
-    let mut marks = no_marks(alloc, classes.len())?;
+    let none = no_marks(alloc, classes.len())?;
+    let mut marks = visited(names, target, classes, order, none);
     let mut left = classes.len();
     loop {
         marks = mark_round(names, target, classes, marks);

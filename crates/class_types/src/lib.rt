@@ -5,12 +5,14 @@
 mod block;
 mod faults;
 mod first;
+mod graph;
 pub mod laws;
 mod leading;
 mod made;
 mod measure;
 mod names;
 mod place;
+mod ranks;
 mod recursion;
 mod settle;
 mod sized;

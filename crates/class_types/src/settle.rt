@@ -23,17 +23,6 @@ pub fn classes_of(alloc: Global, items: &[Item]) -> Result<Vec<&ClassDef>, Alloc
     Ok(classes)
 }
 
-/// The names of classes.
-pub fn names_of(alloc: Global, classes: &[&ClassDef]) -> Result<ClassNames, AllocError>
-    ensures { IfOk result (λ r. r ≡ names_of_classes (map (λ d. d.now) classes.now)) }
-{
-    let mut names = ClassNames::new(alloc);
-    for class in classes {
-        names.push(&class.name.text)?;
-    }
-    Ok(names)
-}
-
 /// The types so far with that of this class, where it has none yet and its fields give one.
 fn filled(
     alloc: Global,

@@ -6,10 +6,10 @@ ghost use Rattle.class_types.specs.Measured.{stray_type, class_size_by, AreMeasu
 ghost use Rattle.class_types.specs.Rounds.{filled, round, visit_class, visited};
 
 use crate::measure::size_of_class;
-use mono_tree::Size;
 use crate::names::ClassNames;
 use crate::settle::unknown;
 use mono_syntax::ClassDef;
+use mono_tree::Size;
 use std::alloc::{AllocError, Global};
 
 /// The sizes so far with that of this class, where it has none yet and its fields give one.
@@ -90,16 +90,6 @@ fn none_sized(alloc: Global, count: usize) -> Result<Vec<Option<Size>>, AllocErr
         own.push(None)?;
     }
     Ok(own)
-}
-
-/// The numbers below this one, the last first: a chain of classes that are written before they are defined is found in
-/// one visit of each, as the rounds find one that is defined first.
-pub fn last_first(alloc: Global, count: usize) -> Result<Vec<usize>, AllocError> {
-    let mut order = Vec::new(alloc);
-    for at in (0..count).rev() {
-        order.push(at)?;
-    }
-    Ok(order)
 }
 
 /// The sizes of the types that the classes have, where a name of no class counts as this. The order of the first visits

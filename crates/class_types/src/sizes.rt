@@ -10,9 +10,11 @@ ghost use Rattle.script_rules.specs.SourceParts.{field_parts, param_parts, item_
 
 use crate::block::{main_faults, names_faults};
 use crate::faults::{Sizes, ann_faults, count_fault, type_fault};
+use crate::graph::Graph;
 use crate::measure::{size_of_class, size_of_function};
-use crate::settle::{classes_of, names_of};
-use crate::sized::{last_first, sized};
+use crate::names::names_of;
+use crate::settle::classes_of;
+use crate::sized::sized;
 use crate::walk::{any_ann_faults, stmt_faults};
 use mono_syntax::{ClassDef, FieldDef, FuncDef, Item, Param, Reason, Refusal, Script, Stmt};
 use std::alloc::{AllocError, Global};
@@ -129,7 +131,7 @@ fn class_sizes(alloc: Global, items: &[Item]) -> Result<Sizes, AllocError>
 {
     let classes = classes_of(alloc, items)?;
     let names = names_of(alloc, classes.as_slice())?;
-    let order = last_first(alloc, classes.len())?;
+    let order = Graph::new(alloc, &names, classes.as_slice())?.leaving(alloc)?;
     let own = sized(alloc, &names, classes.as_slice(), None, order.as_slice())?;
     Ok(Sizes { names, own })
 }

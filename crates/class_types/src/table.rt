@@ -8,9 +8,9 @@ ghost use Rattle.class_types.specs.Made.{names_of_classes, AreOwnTypes};
 ghost use Rattle.class_types.specs.Holds.{Holds, Extends};
 
 use crate::made::{function_made, type_any, type_made};
-use crate::names::ClassNames;
+use crate::names::{ClassNames, names_of};
 use crate::place::{Positions, all_placed, base_types, placed};
-use crate::settle::{classes_of, names_of, settled};
+use crate::settle::{classes_of, settled};
 use mono_list::Shared;
 use mono_syntax::{Ann, FuncDef, Item, Script, Ty, TyAt};
 use sqlite_items::Items;

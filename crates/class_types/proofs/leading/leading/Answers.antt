@@ -1,18 +1,21 @@
-use Rattle.std.proofs.Common.{◌≡◌, ◌∙◌, sym, ap, subst, map, length, ◌≤◌, arith, false}
+use Rattle.std.proofs.Common.{◌≡◌, ◌∙◌, sym, ap, subst, map, length, ◌≤◌, arith, false, replicate}
 use Rattle.std.proofs.lemmas.List.{length-map, length-replicate}
-use Rattle.class_types.specs.Leading.{unmarked, mark_round}
+use Rattle.class_types.specs.Leading.{unmarked, mark_round, visit_marks}
 use Rattle.class_types.specs.Made.{names_of_classes}
-use Rattle.class_types.proofs.LeadingLaws.{AreSound, start-sound, whole-sound, round-done, round-fewer, round-length, unmarked-length}
+use Rattle.class_types.proofs.LeadingLaws.{AreSound, start-sound, visit-sound, visit-length, whole-sound, round-done, round-fewer, round-length, unmarked-length}
 use Rattle.class_types.proofs.leading.leading.Goals as goal
 
 pub loop-left-init : goal.loop-left-init
 loop-left-init c =
     let cs = map (λ d. d.now) c.args.classes.now in
-    let size : length c.in_ok-marks.marks.items ≡ length c.args.classes.now = ap length c.in_ok-marks.ensures ∙ length-replicate _ false in
+    let none = replicate (length c.args.classes.now) false in
+    let made : c.visited-marks.result.items ≡ visit_marks (names_of_classes cs) c.args.target.now cs c.args.order.now none
+    = c.visited-marks.ensures ∙ (λ i. visit_marks (c.requires i) c.args.target.now cs c.args.order.now (c.in_ok-none.ensures i)) in
+    let size : length c.visited-marks.result.items ≡ length c.args.classes.now = ap length made ∙ (visit-length cs c.args.target.now c.args.order.now none ∙ length-replicate _ false) in
     record {
       even = size ∙ sym (length-map c.args.classes.now (λ d. d.now));
-      sound = subst (AreSound cs c.args.target.now) (sym c.in_ok-marks.ensures) (start-sound cs c.args.target.now (length c.args.classes.now));
-      left = omega (arith, unmarked-length c.in_ok-marks.marks.items);
+      sound = subst (AreSound cs c.args.target.now) (sym made) (visit-sound cs c.args.target.now c.args.order.now none (start-sound cs c.args.target.now (length c.args.classes.now)));
+      left = omega (arith, unmarked-length c.visited-marks.result.items);
     }
 
 pub returns-then-now-left : goal.returns-then-now-left
