@@ -5,8 +5,8 @@ use Rattle.std.proofs.lemmas.List.{take_more}
 use Rattle.std.proofs.lemmas.List.Elements.{Contains-push_cases}
 use Rattle.mono_syntax.specs.declared.leaf.TyAt.{TyAt}
 use Rattle.mono_syntax.specs.Ty.{Ty, dyn, int, bool, str, nil}
-use Rattle.script_rules.specs.Scoping.{AreDistinct}
-use Rattle.class_types.specs.Known.{Begins, base_types}
+use Rattle.mono_tree.specs.ClosedList.{AreDistinct, base_types}
+use Rattle.class_types.specs.Known.{Begins}
 use Rattle.class_types.specs.Placed.{StandAt}
 use Rattle.class_types.proofs.Gets.{some_is, none_some, get-within}
 

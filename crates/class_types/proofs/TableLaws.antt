@@ -9,11 +9,12 @@ use Rattle.mono_syntax.specs.declared.tree.FuncDef.{FuncDef}
 use Rattle.mono_syntax.specs.declared.tree.Script.{Script}
 use Rattle.mono_syntax.specs.Ann.{Ann}
 use Rattle.mono_syntax.specs.Ty.{Ty}
-use Rattle.script_rules.specs.Scoping.{AreDistinct, StandsAt, ClassesStand, class_list}
+use Rattle.script_rules.specs.Scoping.{StandsAt, ClassesStand, class_list}
+use Rattle.mono_tree.specs.ClosedList.{AreDistinct, base_types}
 use Rattle.script_rules.specs.Writes.{Writes, WritesAny, IsClassType, IsFunctionType}
 use Rattle.class_types.specs.declared.table.ClassTypes.{ClassTypes}
 use Rattle.class_types.specs.Holds.{Holds}
-use Rattle.class_types.specs.Known.{HaveTypes, Begins, base_types, StandTypes}
+use Rattle.class_types.specs.Known.{HaveTypes, Begins, StandTypes}
 use Rattle.class_types.specs.Made.{look, type_by, any_by, function_by, class_by, names_of_classes, AreOwnTypes}
 use Rattle.class_types.specs.Placed.{StandAt}
 use Rattle.class_types.proofs.Gets.{some_is, none_some}

@@ -2,17 +2,15 @@
 use Rattle.std.specs.Prelude.{◌≡◌, List, [], ◌∷◌, ◌++◌}
 use Rattle.mono_syntax.specs.declared.leaf.TyAt.{TyAt}
 use Rattle.mono_syntax.specs.declared.tree.ClassDef.{ClassDef}
-use Rattle.mono_syntax.specs.Ty.{Ty, dyn, int, bool, str, nil}
-use Rattle.script_rules.specs.Scoping.{AreDistinct, ClassesStand}
+use Rattle.mono_syntax.specs.Ty.{Ty}
+use Rattle.mono_tree.specs.ClosedList.{base_types, AreDistinct}
+use Rattle.script_rules.specs.Scoping.{ClassesStand}
 use Rattle.script_rules.specs.Writes.{IsClassType}
 
 -- each class has a type
 abbrev pub HaveTypes : List ClassDef → List ClassDef → Type 0
 HaveTypes cs [] = Unit {0}
 HaveTypes cs (d ∷ ds) = ((t : Ty) × IsClassType cs d t) × HaveTypes cs ds
-
-abbrev pub base_types : List Ty
-base_types = dyn ∷ int ∷ bool ∷ str ∷ nil ∷ []
 
 -- the first list is the beginning of the second
 abbrev pub Begins : {A : Type 0} → List A → List A → Type 0

@@ -1,7 +1,7 @@
 ghost use Rattle.std.specs.Prelude.{◌≡◌, ℕ, [], ◌∷◌, ◌++◌, Some, None, IfOk, OnOk, IfSome, IfNone, MatchOption, Contains, slice_get};
 ghost use Rattle.mono_syntax.specs.TyView.{ty_of};
-ghost use Rattle.script_rules.specs.Scoping.{AreDistinct};
-ghost use Rattle.class_types.specs.Known.{Begins, base_types};
+ghost use Rattle.mono_tree.specs.ClosedList.{AreDistinct, base_types};
+ghost use Rattle.class_types.specs.Known.{Begins};
 ghost use Rattle.class_types.specs.Placed.{StandAt};
 
 use mono_list::Shared;

@@ -7,7 +7,7 @@ use Rattle.mono_list.proofs.Cases.{split, some_is, none_some, some_none}
 use Rattle.mono_syntax.specs.Ty.{Ty}
 use Rattle.mono_tree.specs.Precision.{precise}
 use Rattle.mono_tree.proofs.TypeLaws.{precise_refl, precise_antisym}
-use Rattle.script_rules.specs.Scoping.{AreDistinct}
+use Rattle.mono_tree.specs.ClosedList.{AreDistinct}
 use Rattle.known_names.specs.declared.types.Placed.{Placed}
 use Rattle.known_names.specs.TypeList.{same, position_from, placed, with_type}
 

@@ -6,6 +6,7 @@ use Rattle.mono_syntax.specs.Ty.{Ty, dyn, int, bool, str, nil, fun, obj, Tys, no
 use Rattle.mono_syntax.specs.TyEq.{ty_eq}
 use Rattle.mono_tree.specs.Meet.{IsMeet, meet_of}
 
+-- the types without parts that a script needn't write
 abbrev pub base_types : List Ty
 base_types = dyn ∷ int ∷ bool ∷ str ∷ nil ∷ []
 
@@ -100,6 +101,7 @@ pub record IsClosedList (types l : List Ty) : Type 0 where
   pub made : after_rows types rows ≡ l
   pub whole : length l ≤ rows
 
+-- each type stands once in the list
 abbrev pub AreDistinct : List Ty → Type 0
 AreDistinct [] = Unit {0}
 AreDistinct (t ∷ ts) = (Contains ts t → ⊥) × AreDistinct ts

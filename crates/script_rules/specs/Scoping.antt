@@ -1,6 +1,6 @@
 -- A script whose names have their types. The type of a name in its block is that of its annotation, and `Dyn` where it
 -- has none.
-use Rattle.std.specs.Prelude.{◌≡◌, List, [], ◌∷◌, Some, map, Contains, slice_get}
+use Rattle.std.specs.Prelude.{◌≡◌, List, [], ◌∷◌, Some, map, slice_get}
 use Rattle.mono_syntax.specs.declared.leaf.TyAt.{TyAt}
 use Rattle.mono_syntax.specs.declared.script.BlockNames.{BlockNames}
 use Rattle.mono_syntax.specs.declared.script.Scoped.{Scoped}
@@ -11,14 +11,10 @@ use Rattle.mono_syntax.specs.declared.tree.Param.{Param}
 use Rattle.mono_syntax.specs.declared.tree.Script.{Script}
 use Rattle.mono_syntax.specs.Stmt.{Stmt}
 use Rattle.mono_syntax.specs.Ty.{Ty}
+use Rattle.mono_tree.specs.ClosedList.{AreDistinct}
 use Rattle.script_rules.specs.Definitions.{classes_of, functions_of, statements_of}
 use Rattle.script_rules.specs.Writes.{WritesAny, IsClassType, IsFunctionType}
 use Rattle.script_rules.specs.BlockNames.{Target, firsts, all_targets, all_starts}
-
--- each type stands once in the list
-abbrev pub AreDistinct : List Ty → Type 0
-AreDistinct [] = Unit {0}
-AreDistinct (t ∷ ts) = (Contains ts t → ⊥) × AreDistinct ts
 
 -- a type of this kind stands at a position of the list
 pub record StandsAt (types : List Ty) (a : TyAt) (Is : Ty → Type 0) : Type 0 where

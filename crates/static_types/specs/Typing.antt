@@ -7,7 +7,7 @@ use Rattle.mono_syntax.specs.declared.refusal.Refusal.{Refusal}
 use Rattle.mono_syntax.specs.declared.script.Scoped.{Scoped}
 use Rattle.mono_syntax.specs.declared.script.Typed.{Typed}
 use Rattle.mono_syntax.specs.Ty.{Ty}
-use Rattle.script_rules.specs.Scoping.{AreDistinct}
+use Rattle.mono_tree.specs.ClosedList.{AreDistinct}
 use Rattle.static_types.specs.Scripts.{HasTypes, IsTypeFault}
 
 -- at these positions of a list stand these types

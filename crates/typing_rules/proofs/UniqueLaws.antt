@@ -17,7 +17,7 @@ use Rattle.mono_syntax.specs.CastExpr as cast
 use Rattle.mono_syntax.specs.Ty.{Ty, dyn, int, bool, str, nil, obj, Fields, no_fields, more_fields}
 use Rattle.mono_tree.specs.Precise.{Precise}
 use Rattle.mono_tree.specs.TypedPrograms.{type_of_name}
-use Rattle.script_rules.specs.Scoping.{AreDistinct}
+use Rattle.mono_tree.specs.ClosedList.{AreDistinct}
 use Rattle.script_rules.specs.Writes.{Writes, Declares, in_order}
 use Rattle.typing_rules.specs.Elaborates.{IsSiteFor, IsPlainSite, Uses, as_it_is, with_cast, UsesAll, uses_none, uses_more, Elaborates, of_number, of_text, of_truth, of_nil, of_name, of_dyn_sum, of_arithmetic, of_comparison, of_equality, of_neg, of_not, of_both, of_either, of_dyn_read, of_read, of_cast, of_new, ElaboratesAt, used_at, ElaboratesPair, used_pair, ElaborateAll, of_none, of_more}
 use Rattle.typing_rules.specs.Members.{Names, Numbered, class_at, field_type}

@@ -22,7 +22,8 @@ use Rattle.mono_syntax.specs.Ty.{Ty, dyn, bool, obj, Fields}
 use Rattle.mono_tree.specs.Static.{is_static}
 use Rattle.mono_tree.specs.TypedPrograms.{type_of_name}
 use Rattle.script_rules.specs.BlockNames.{Target, firsts, all_targets}
-use Rattle.script_rules.specs.Scoping.{AreDistinct, class_list, main_block}
+use Rattle.script_rules.specs.Scoping.{class_list, main_block}
+use Rattle.mono_tree.specs.ClosedList.{AreDistinct}
 use Rattle.script_rules.specs.Writes.{in_order, IsClassType}
 use Rattle.typing_rules.specs.Elaborates.{IsSiteFor, IsPlainSite, Uses, Elaborates, ElaboratesAt, ElaborateAll}
 use Rattle.typing_rules.specs.ElaboratesLines.{ElaboratesLine, passes, stands_alone, assigns, prints, writes_dyn, writes_static, writes_field, branches, loops, ElaboratesGuarded, guards, ElaboratesBranches, no_branch, next_branch, ElaboratesElse, no_last, at_last, ElaboratesBlock, ends, goes_on}

@@ -13,7 +13,8 @@ use Rattle.mono_syntax.specs.StmtView.{block}
 use Rattle.mono_syntax.specs.Ty.{Ty}
 use Rattle.mono_tree.specs.IsType.{IsType}
 use Rattle.script_rules.specs.BlockNames.{Target, firsts, all_targets}
-use Rattle.script_rules.specs.Scoping.{AreDistinct, class_list, main_block}
+use Rattle.script_rules.specs.Scoping.{class_list, main_block}
+use Rattle.mono_tree.specs.ClosedList.{AreDistinct}
 use Rattle.script_rules.specs.Writes.{WritesAny, IsClassType}
 use Rattle.typing_rules.specs.BuiltForms.{AreBuilt, not_built}
 use Rattle.typing_rules.specs.ElaboratesLines.{ElaboratesBlock}

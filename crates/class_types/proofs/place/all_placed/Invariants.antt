@@ -1,5 +1,5 @@
 use Rattle.std.proofs.Common.{take}
-use Rattle.script_rules.specs.Scoping.{AreDistinct}
+use Rattle.mono_tree.specs.ClosedList.{AreDistinct}
 use Rattle.class_types.specs.Known.{Begins}
 use Rattle.class_types.specs.Placed.{StandAt}
 use Rattle.class_types.proofs.place.all_placed.Given as goal
