@@ -19,7 +19,9 @@ use Rattle.cast_machine.specs.Step.{Configuration, act, changed, fueled, heeds, 
 use Rattle.cast_machine.proofs.Heap.{on_test}
 use Rattle.mono_list.proofs.Cases.{some_is, none_some}
 use Rattle.cast_machine.specs.declared.data.Thread.{Thread}
-use Rattle.cast_calculus.specs.Fueled.{IsFueledIn, IsFueled, AreFueled, IsBegun, IsFresh}
+use Rattle.cast_machine.proofs.WithinLimits.{words_of-append}
+use Rattle.cast_machine.specs.RunLimits.{IsFueledIn}
+use Rattle.cast_calculus.specs.Fueled.{IsFueled, AreFueled, IsBegun, IsFresh}
 
 pub are_fueled_set : (fuel : ℕ) (ths : List Thread) (i : ℕ) (th : Thread) → AreFueled fuel ths → IsFueled fuel th → AreFueled fuel (set ths i th)
 are_fueled_set fuel [] i th h f = tt
@@ -34,13 +36,6 @@ pub is_fueled_at : (fuel : ℕ) (ths : List Thread) (i : ℕ) (th : Thread) → 
 is_fueled_at fuel [] i th h e = none_some _ e
 is_fueled_at fuel (x ∷ ths) zero th h e = subst (IsFueled fuel) (some_is e) h.0
 is_fueled_at fuel (x ∷ ths) (suc i) th h e = is_fueled_at fuel ths i th h.1 e
-
-pub words_of-append : (lines : List (List Val)) (line : List Val) → words_of (lines ++ line ∷ []) ≡ words_of lines + (length line + 1)
-words_of-append [] line = omega arith
-words_of-append (x ∷ lines) line = more (length x) (words_of (lines ++ line ∷ [])) (words_of lines) (length line) (words_of-append lines line)
-  where
-    more : (a b c d : ℕ) → b ≡ c + (d + 1) → a + 1 + b ≡ a + 1 + c + (d + 1)
-    more a b c d e = omega arith
 
 -- ---- what a change leaves
 

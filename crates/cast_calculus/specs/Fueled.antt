@@ -1,16 +1,11 @@
 -- A running thread has not used up its fuel.
-use Rattle.std.specs.Prelude.{◌≡◌, ℕ, ◌<◌, List, [], ◌∷◌}
+use Rattle.std.specs.Prelude.{◌≡◌, ℕ, List, [], ◌∷◌}
 use Rattle.cast_machine.specs.declared.data.Outcome.{Outcome}
 use Rattle.cast_machine.specs.declared.data.Outcome.TheVariants as outcome
 use Rattle.cast_machine.specs.declared.data.Thread.{Thread}
 use Rattle.cast_machine.specs.declared.data.Change.{Change}
 use Rattle.cast_machine.specs.declared.data.Change.TheVariants as change
-use Rattle.cast_machine.specs.declared.data.State.{State}
-use Rattle.cast_machine.specs.declared.data.State.TheVariants as state
-
-abbrev pub IsFueledIn : ℕ → ℕ → State → Type 0
-IsFueledIn fuel steps (state.Running f below) = steps < fuel
-IsFueledIn fuel steps s = Unit {0}
+use Rattle.cast_machine.specs.RunLimits.{IsFueledIn}
 
 abbrev pub IsFueled : ℕ → Thread → Type 0
 IsFueled fuel th = IsFueledIn fuel th.steps th.state

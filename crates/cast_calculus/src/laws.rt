@@ -16,7 +16,8 @@ ghost use Rattle.cast_orders.specs.Solutions.{IsSolution, IsWeakest, IsWeakestOf
 
 /// Every configuration of a run of a well-typed script, whatever the settings and the picks, is well typed, isn't stuck
 /// and holds no blame of a cast that only loses precision; one pick more leaves every field's type at least as precise,
-/// and where a cast goes its value has the target type.
+/// and where a cast goes its value has the target type of its own site. All limits are kept, and no type is met but types of
+/// the language.
 pub fn safe_runs()
     ensures { (p : CastScript) → IsTypedProgram p → (s : Settings) → 1 ≤ s.fuel → (order : List ℕ) → IsSafe p (run_of p s order) }
 {

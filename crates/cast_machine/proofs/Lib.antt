@@ -19,6 +19,8 @@ pub mod Progress
 pub mod CastsGo
 pub mod RowLimits
 pub mod WithinLimits
+pub mod RowTypes
+pub mod RunTypes
 pub mod Runs
 pub mod Ranks
 pub mod SeededRuns

@@ -1,4 +1,6 @@
 -- Every configuration of a run is safe.
+use Rattle.cast_machine.specs.LanguageTypes.{HasLanguageTypes, HasTypesOfLanguage}
+use Rattle.cast_machine.proofs.RunTypes.{run_is, start_is}
 use Rattle.cast_machine.specs.RunLimits.{IsWithinLimits}
 use Rattle.cast_machine.proofs.WithinLimits.{run_within, start_within}
 use Rattle.std.proofs.Common.{List, None, Some, [], refl, slice_get, subst, suc, sym, zero, ℕ, ◌∙◌, ◌∷◌, ◌≡◌, ◌≤◌}
@@ -69,16 +71,18 @@ no_losing p c ok (recorded k e lost) =
 
 -- ---- the law
 
-pub safe_at : (p : CastScript) → IsTypedProgram p → (c : Configuration) → IsWellTyped p c → IsWithinLimits p c → IsSafe p c
-safe_at p pok c ok within = record {
+pub safe_at : (p : CastScript) → IsTypedProgram p → (c : Configuration) → IsWellTyped p c → IsWithinLimits p c → (HasLanguageTypes p → HasTypesOfLanguage c) → IsSafe p c
+safe_at p pok c ok within types = record {
   typed = ok;
   runs = not_stuck p pok c ok;
   blames = no_losing p c ok;
   gains = λ t. (pick_ok p pok c ok t).1;
   casts = casts_hold p c ok;
   limits = within;
+  types = types;
 }
 
 pub safe_run : (p : CastScript) → IsTypedProgram p → (s : Settings) → 1 ≤ s.fuel → (order : List ℕ) → IsSafe p (run_of p s order)
 safe_run p pok s fuel order =
     safe_at p pok (run_of p s order) (run_ok p pok (start_of p s) (start_ok p pok s) order) (run_within p (start_of p s) (start_within p s fuel) fuel order)
+    (λ types. run_is p pok types (start_of p s) (start_ok p pok s) (start_is p s) order)

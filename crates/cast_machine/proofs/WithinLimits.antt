@@ -51,7 +51,7 @@ size_set h a x d = go (object_at h a) refl
     go None e = refl
     go (Some o) e = size_object h a o (record o { cells = update o.cells x d }) e (ap (λ n. max 1 n) (length-update o.cells x d))
 
-words_of-append : (lines : List (List Val)) (line : List Val) → words_of (lines ++ line ∷ []) ≡ words_of lines + (length line + 1)
+pub words_of-append : (lines : List (List Val)) (line : List Val) → words_of (lines ++ line ∷ []) ≡ words_of lines + (length line + 1)
 words_of-append [] line = omega arith
 words_of-append (x ∷ lines) line = more (length x) (words_of (lines ++ line ∷ [])) (words_of lines) (length line) (words_of-append lines line)
   where

@@ -34,6 +34,8 @@ pub mod WorkTyping
 pub mod Typing
 -- how many threads, cells, print words, steps and items there are at most
 pub mod RunLimits
+-- the types of a configuration are types of the language
+pub mod LanguageTypes
 -- what is true of every configuration of a run
 pub mod Safety
 -- steps on small configurations

@@ -19,6 +19,7 @@ use Rattle.cast_machine.specs.Step.{Configuration, step_of, picked}
 use Rattle.cast_machine.specs.HeapTyping.{HasType, Extends}
 use Rattle.cast_machine.specs.Typing.{IsWellTyped}
 use Rattle.cast_machine.specs.RunLimits.{IsWithinLimits}
+use Rattle.cast_machine.specs.LanguageTypes.{HasLanguageTypes, HasTypesOfLanguage}
 
 -- ---- stuck
 
@@ -87,3 +88,5 @@ pub record IsSafe (p : CastScript) (c : Configuration) : Type 0 where
   pub casts : CastsHold p c
   -- threads, cells, print words, steps and items are within their limits
   pub limits : IsWithinLimits p c
+  -- each type that is recorded, merged or asked for is a type of the language, where those of the script's sites are
+  pub types : HasLanguageTypes p → HasTypesOfLanguage c

@@ -8,7 +8,7 @@ ghost use Rattle.cast_machine.specs.Examples.{AreExampleSteps};
 
 /// Every configuration of a run of a well-typed script is well typed and isn't stuck, and holds no blame of a cast that
 /// only loses precision. One pick more leaves every field's type at least as precise, where a cast goes its value has the
-/// target type of its own site, and all limits are kept.
+/// target type of its own site, all limits are kept, and no type is met but types of the language.
 pub fn safe_runs()
     ensures { (p : CastScript) → IsTypedProgram p → (s : Settings) → 1 ≤ s.fuel → (order : List ℕ) → IsSafe p (run_of p s order) }
 {}

@@ -2,7 +2,7 @@ use Rattle.std.proofs.Common.{◌≡◌, ◌+◌, ◌∙◌, ap, subst, sym}
 use Rattle.cast_machine.specs.declared.data.Settings.{Settings}
 use Rattle.cast_machine.specs.Step.{fueled}
 use Rattle.cast_machine.specs.declared.data.State.{State}
-use Rattle.cast_calculus.specs.Fueled.{IsFueledIn}
+use Rattle.cast_machine.specs.RunLimits.{IsFueledIn}
 use Rattle.cast_calculus.proofs.FueledLists.{changed_room, changed_fueled}
 use Rattle.cast_calculus.proofs.config.Config.counted.Goals as goal
 
