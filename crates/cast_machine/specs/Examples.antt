@@ -44,7 +44,11 @@ abbrev f : CastFunction
 f = record {
   params = x ∷ [];
   ty = fun (more_tys dyn no_tys) dyn;
-  block = record { names = record { name = x; ty = dyn } ∷ record { name = y; ty = dyn } ∷ []; threads = record { name = t; ty = dyn } ∷ []; body = body };
+  block = record {
+    names = record { name = x; ty = dyn } ∷ record { name = y; ty = dyn } ∷ [];
+    threads = record { name = t; ty = dyn } ∷ [];
+    body = body;
+  };
   falls = Some 5;
 }
 
@@ -67,11 +71,18 @@ callee = val.Fun 0 merged
 
 -- a frame of f that asks for an int
 abbrev frame : List Work → List Val → Frame
-frame items vs = record { names = (x, Some three) ∷ (y, None) ∷ []; handles = (t, None) ∷ []; started = []; asked = Some int; work = items; values = vs }
+frame items vs = record {
+  names = (x, Some three) ∷ (y, None) ∷ [];
+  handles = (t, None) ∷ [];
+  started = [];
+  asked = Some int;
+  work = items;
+  values = vs;
+}
 
 -- the same where thread 1 was started as t
 abbrev starter : List Work → List Val → Frame
-starter items vs = record { names = (x, Some three) ∷ (y, None) ∷ []; handles = (t, Some 1) ∷ []; started = 1 ∷ []; asked = Some int; work = items; values = vs }
+starter items vs = record (frame items vs) { handles = (t, Some 1) ∷ []; started = 1 ∷ [] }
 
 -- the first frame of a call of f with 7
 abbrev entered : Frame
@@ -134,7 +145,9 @@ pub record CallSteps (given : CastScript) : Type 0 where
   pub arg : GoesAlone given
       (runs (frame (work.Arg 1 int 0 ∷ work.Enter 0 merged 1 ∷ []) (seven ∷ callee ∷ [])) [] 5)
       (runs (frame (work.Enter 0 merged 1 ∷ []) (seven ∷ callee ∷ [])) [] 6)
-  pub arg_blamed : GoesAlone given (runs (frame (work.Arg 1 str 0 ∷ work.Enter 0 merged 1 ∷ []) (seven ∷ callee ∷ [])) [] 5) (fails (ends.Blame 1) 6)
+  pub arg_blamed : GoesAlone given
+      (runs (frame (work.Arg 1 str 0 ∷ work.Enter 0 merged 1 ∷ []) (seven ∷ callee ∷ [])) [] 5)
+      (fails (ends.Blame 1) 6)
   -- a new frame, and below it the caller's without both values
   pub enter : GoesAlone given
       (runs (frame (work.Enter 0 merged 1 ∷ work.Forget ∷ []) (seven ∷ callee ∷ three ∷ [])) [] 6)
@@ -143,9 +156,13 @@ pub record CallSteps (given : CastScript) : Type 0 where
   pub give : GoesAlone given
       (runs (frame (work.Stmt body 1 ∷ work.Block body 2 ∷ work.Fall (Some 5) ∷ []) []) [] 7)
       (runs (frame (work.Eval nil ∷ work.Result 5 ∷ work.Leave ∷ []) []) [] 8)
-  pub fall : GoesAlone given (runs (frame (work.Fall (Some 5) ∷ []) []) [] 8) (runs (frame (work.Result 5 ∷ work.Leave ∷ []) (val.Nil ∷ [])) [] 9)
+  pub fall : GoesAlone given
+      (runs (frame (work.Fall (Some 5) ∷ []) []) [] 8)
+      (runs (frame (work.Result 5 ∷ work.Leave ∷ []) (val.Nil ∷ [])) [] 9)
   pub fall_without_site : GoesAlone given (runs (frame (work.Fall None ∷ []) []) [] 8) (runs (frame (work.Leave ∷ []) (val.Nil ∷ [])) [] 9)
-  pub result : GoesAlone given (runs (frame (work.Result 5 ∷ work.Leave ∷ []) (seven ∷ [])) [] 8) (runs (frame (work.Leave ∷ []) (seven ∷ [])) [] 9)
+  pub result : GoesAlone given
+      (runs (frame (work.Result 5 ∷ work.Leave ∷ []) (seven ∷ [])) [] 8)
+      (runs (frame (work.Leave ∷ []) (seven ∷ [])) [] 9)
   pub result_blamed : GoesAlone given (runs (frame (work.Result 5 ∷ work.Leave ∷ []) (val.Nil ∷ [])) [] 8) (fails (ends.Blame 5) 9)
   -- the value goes to the frame below
   pub leave : GoesAlone given
@@ -180,9 +197,15 @@ pub record ThreadSteps (given : CastScript) : Type 0 where
       (has [] [] (thread state.Stopped 8 ∷ []) (Some ends.Done))
   -- a failing thread records its end in a step that isn't counted, and only where none is recorded
   pub records : Goes given (alone (fails (ends.Blame 1) 7)) (has [] [] (thread state.Stopped 7 ∷ []) (Some (ends.Blame 1)))
-  pub records_first : Goes given (has [] [] (fails (ends.Blame 1) 7 ∷ []) (Some ends.Fuel)) (has [] [] (thread state.Stopped 7 ∷ []) (Some ends.Fuel))
+  pub records_first : Goes given
+      (has [] [] (fails (ends.Blame 1) 7 ∷ []) (Some ends.Fuel))
+      (has [] [] (thread state.Stopped 7 ∷ []) (Some ends.Fuel))
 
 -- ---- limits
+
+-- a frame that has started the last thread
+abbrev last_starter : Frame
+last_starter = record (frame [] []) { handles = (t, Some 255) ∷ []; started = 255 ∷ [] }
 
 abbrev copies : ℕ → Thread → List Thread
 copies zero th = []
@@ -211,7 +234,7 @@ pub record LimitSteps (given : CastScript) : Type 0 where
   -- thread 255 is the last that is made
   pub last_thread : Goes given
       (has [] [] (runs (frame (work.Begin t 0 merged 1 ∷ []) (seven ∷ callee ∷ [])) [] 5 ∷ copies 254 (other state.Stopped)) None)
-      (has [] [] (runs (record (frame [] []) { handles = (t, Some 255) ∷ []; started = 255 ∷ [] }) [] 6 ∷ copies 254 (other state.Stopped) ++ runs entered [] 0 ∷ []) None)
+      (has [] [] (runs last_starter [] 6 ∷ copies 254 (other state.Stopped) ++ runs entered [] 0 ∷ []) None)
   pub threads : Goes given
       (has [] [] (runs (frame (work.Begin t 0 merged 1 ∷ []) (seven ∷ callee ∷ [])) [] 5 ∷ copies 255 (other state.Stopped)) None)
       (has [] [] (fails ends.ThreadLimit 6 ∷ copies 255 (other state.Stopped)) None)

@@ -156,7 +156,8 @@ abbrev pub Later : CastScript → Around → List Work → List Ty → Type 0
 Later p q rest ts = IsWellTypedWork p q.scope q.asked rest ts
 
 -- a fit to t at site k of the value at place j; t is the target of a Cast site
-pub record IsWellTypedFitted (p : CastScript) (q : Around) (h : Heap) (left : List Pending) (rest : List Work) (k : ℕ) (t : Ty) (j : ℕ) (vs : List Val) (ts : List Ty) : Type 0 where
+pub record IsWellTypedFitted
+    (p : CastScript) (q : Around) (h : Heap) (left : List Pending) (rest : List Work) (k : ℕ) (t : Ty) (j : ℕ) (vs : List Val) (ts : List Ty) : Type 0 where
   pub site : IsFitSite p k t
   pub value : Val
   pub at : slice_get vs j ≡ Some value

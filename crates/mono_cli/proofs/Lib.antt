@@ -5,3 +5,4 @@ pub mod CommandAnswers
 pub mod Running
 pub mod ProgramTree
 pub mod EachLine
+pub mod EndLines
