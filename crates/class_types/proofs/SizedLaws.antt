@@ -7,7 +7,7 @@ use Rattle.mono_syntax.specs.declared.tree.ClassDef.{ClassDef}
 use Rattle.mono_syntax.specs.Ty.{Ty}
 use Rattle.mono_tree.specs.declared.size.Size.{Size}
 use Rattle.class_types.specs.Made.{look, class_by, names_of_classes}
-use Rattle.mono_tree.specs.CountedSizes.{measured}
+use Rattle.mono_tree.specs.computed.CountedSizes.{measured}
 use Rattle.class_types.specs.Measured.{class_size_by, stray_type, AreMeasured}
 use Rattle.class_types.specs.Rounds.{round, unknown, visit_class, visited}
 use Rattle.class_types.proofs.MadeLaws.{class-grows}

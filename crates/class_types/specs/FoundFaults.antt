@@ -9,7 +9,7 @@ use Rattle.mono_syntax.specs.declared.tree.Item.{Item}
 use Rattle.mono_syntax.specs.declared.tree.Item.TheVariants as item
 use Rattle.script_rules.specs.Definitions.{statements_of}
 use Rattle.mono_tree.specs.declared.size.Size.{Size}
-use Rattle.mono_tree.specs.CountedSizes.{is_too_large}
+use Rattle.mono_tree.specs.computed.CountedSizes.{is_too_large}
 use Rattle.script_rules.specs.FirstFault.{sooner}
 use Rattle.class_types.specs.Measured.{size_by, class_size_by, function_size_by}
 use Rattle.script_rules.specs.SourceParts.{Counted, Part, annotation, arguments, place_of, callables, item_parts, block_names}

@@ -10,7 +10,7 @@ use Rattle.mono_syntax.specs.Ann as form
 use Rattle.mono_syntax.specs.Ty.{Ty, dyn}
 use Rattle.mono_tree.specs.declared.size.Size.{Size}
 use Rattle.class_types.specs.Made.{AreSettled}
-use Rattle.mono_tree.specs.CountedSizes.{measured, nothing, joined, grown, leaf}
+use Rattle.mono_tree.specs.computed.CountedSizes.{measured, nothing, joined, grown, leaf}
 
 abbrev mutual
   pub size_by : (List ℕ → Option Size) → Ann → Option Size

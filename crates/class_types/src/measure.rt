@@ -1,7 +1,7 @@
 ghost use Rattle.std.specs.Prelude.{◌≡◌, ◌≤◌, length};
 ghost use Rattle.mono_syntax.specs.AnnView.{anns};
 ghost use Rattle.class_types.specs.Made.{look};
-ghost use Rattle.mono_tree.specs.CountedSizes.{nothing};
+ghost use Rattle.mono_tree.specs.computed.CountedSizes.{nothing};
 ghost use Rattle.class_types.specs.Measured.{size_by, sizes_onto, fields_onto, class_size_by, any_size_by, params_onto, function_size_by};
 
 use crate::names::ClassNames;

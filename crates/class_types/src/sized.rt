@@ -1,7 +1,7 @@
 ghost use Rattle.std.specs.Prelude.{◌≡◌, slice_get, length, map, replicate, Some, None, IfOk};
 ghost use Rattle.std.specs.Option.{option_map};
 ghost use Rattle.class_types.specs.Made.{names_of_classes};
-ghost use Rattle.mono_tree.specs.CountedSizes.{measured};
+ghost use Rattle.mono_tree.specs.computed.CountedSizes.{measured};
 ghost use Rattle.class_types.specs.Measured.{stray_type, class_size_by, AreMeasured};
 ghost use Rattle.class_types.specs.Rounds.{filled, round, visit_class, visited};
 

@@ -2,7 +2,7 @@
 use Rattle.std.proofs.Common.{◌≡◌, true, false, List, [], ◌∷◌, length, refl, arith}
 use Rattle.mono_syntax.specs.declared.tree.Field as rust_field
 use Rattle.mono_syntax.specs.Ty.{Ty}
-use Rattle.mono_syntax.specs.TyEq.{tys_eq, fields_eq}
+use Rattle.mono_syntax.specs.computed.TyEq.{tys_eq, fields_eq}
 use Rattle.mono_syntax.specs.TyView.{tys, fields}
 use Rattle.std.specs.Prelude.{Bool, ◌&&◌}
 

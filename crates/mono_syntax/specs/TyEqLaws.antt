@@ -5,7 +5,7 @@ use Rattle.std.specs.Cmp.{IsEquivalence, IsPartialEquivalence, partial_equiv_fro
 use Rattle.std.proofs.lemmas.Bool.{and_parts, and_from}
 use Rattle.std.proofs.lemmas.Slice.Eq.{bytes_eq-Decides}
 use Rattle.mono_syntax.specs.Ty.{Ty, dyn, int, bool, str, nil, fun, obj, Tys, no_tys, more_tys, Fields, no_fields, more_fields}
-use Rattle.mono_syntax.specs.TyEq.{ty_eq, tys_eq, fields_eq, ty_fed}
+use Rattle.mono_syntax.specs.computed.TyEq.{ty_eq, tys_eq, fields_eq, ty_fed}
 
 mutual
   pub ty_eq-is : (a b : Ty) → ty_eq a b ≡ true → a ≡ b

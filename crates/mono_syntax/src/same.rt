@@ -1,6 +1,6 @@
 ghost use Rattle.std.specs.Prelude.{◌≡◌, fold, bytes_eq};
 ghost use Rattle.mono_syntax.specs.TyView.{tys, fields};
-ghost use Rattle.mono_syntax.specs.TyEq.{ty_eq, tys_eq, fields_eq, ty_fed, tys_fed, fields_fed};
+ghost use Rattle.mono_syntax.specs.computed.TyEq.{ty_eq, tys_eq, fields_eq, ty_fed, tys_fed, fields_fed};
 
 use crate::name::Name;
 use crate::tree::{Field, Ty, TyKind};
@@ -8,7 +8,7 @@ use mono_list::Shared;
 use std::hash::{Hash, Hasher};
 
 impl PartialEq for Ty {
-    ghost use Rattle.mono_syntax.specs.TyEq.{ty_eq};
+    ghost use Rattle.mono_syntax.specs.computed.TyEq.{ty_eq};
     ghost use Rattle.mono_syntax.specs.TyEqLaws.{ty_eq-partial};
 
     ghost eq = { ty_eq };
@@ -27,7 +27,7 @@ impl Eq for Ty {
 }
 
 impl Hash for Ty {
-    ghost use Rattle.mono_syntax.specs.TyEq.{ty_fed};
+    ghost use Rattle.mono_syntax.specs.computed.TyEq.{ty_fed};
     ghost use Rattle.mono_syntax.specs.TyEqLaws.{ty_fed-alike};
 
     ghost hash_input = { ty_fed };

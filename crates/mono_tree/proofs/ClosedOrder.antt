@@ -5,7 +5,7 @@ use Rattle.std.specs.List.{list_any}
 use Rattle.std.proofs.lemmas.Option.{slice_get_within}
 use Rattle.mono_list.proofs.Cases.{split, some_is}
 use Rattle.mono_syntax.specs.Ty.{Ty, dyn, int, bool, str, nil, fun, obj, Tys, no_tys, more_tys, Fields, no_fields, more_fields}
-use Rattle.mono_syntax.specs.TyEq.{ty_eq}
+use Rattle.mono_syntax.specs.computed.TyEq.{ty_eq}
 use Rattle.mono_tree.specs.ClosedList.{IsOrdered, base_types, IsPart, parts_first, parts_before, all_parts_first, field_parts_first, each_parts_first, put, put_all, row_meets, after_rows}
 use Rattle.mono_tree.proofs.ClosedPuts.{to_put_all}
 use Rattle.mono_tree.proofs.ClosedParts.{has_field, has_part}

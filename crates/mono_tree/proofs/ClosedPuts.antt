@@ -7,7 +7,7 @@ use Rattle.std.proofs.lemmas.List.Elements.{Contains-append_left, Contains-appen
 use Rattle.std.proofs.lemmas.Map.Views.{list_any-from_Contains}
 use Rattle.mono_list.proofs.Cases.{split}
 use Rattle.mono_syntax.specs.Ty.{Ty, dyn, int, bool, str, nil, fun, obj}
-use Rattle.mono_syntax.specs.TyEq.{ty_eq}
+use Rattle.mono_syntax.specs.computed.TyEq.{ty_eq}
 use Rattle.mono_syntax.specs.TyEqLaws.{ty_eq-is, ty_eq-laws}
 use Rattle.mono_tree.specs.ClosedList.{put, put_all, AreDistinct, parts_first, parts_before, all_parts_first, field_parts_first}
 

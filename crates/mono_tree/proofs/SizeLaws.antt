@@ -3,7 +3,7 @@ use Rattle.std.proofs.Common.{◌≡◌, ℕ, ◌+◌, min, max, arith}
 use Rattle.mono_syntax.specs.Limits.{most_nodes, greatest_depth}
 use Rattle.mono_syntax.specs.Ty.{Ty}
 use Rattle.mono_tree.specs.declared.size.Size.{Size}
-use Rattle.mono_tree.specs.CountedSizes.{measured, joined, grown}
+use Rattle.mono_tree.specs.computed.CountedSizes.{measured, joined, grown}
 use Rattle.mono_tree.specs.Sizes.{nodes_of, depth_of}
 
 -- parts of m nodes and depth d, counted up to the limits

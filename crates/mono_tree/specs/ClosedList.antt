@@ -3,7 +3,7 @@ use Rattle.std.specs.Prelude.{◌≡◌, ℕ, ◌≤◌, ◌<◌, List, [], ◌�
 use Rattle.std.specs.List.{list_any}
 use Rattle.std.proofs.Common.{zero, suc}
 use Rattle.mono_syntax.specs.Ty.{Ty, dyn, int, bool, str, nil, fun, obj, Tys, no_tys, more_tys, Fields, no_fields, more_fields}
-use Rattle.mono_syntax.specs.TyEq.{ty_eq}
+use Rattle.mono_syntax.specs.computed.TyEq.{ty_eq}
 use Rattle.mono_tree.specs.Meet.{IsMeet, meet_of}
 
 -- the types without parts that a script needn't write

@@ -1,5 +1,5 @@
 ghost use Rattle.std.specs.Prelude.{◌≡◌};
-ghost use Rattle.mono_tree.specs.CountedSizes.{joined, grown, is_too_large};
+ghost use Rattle.mono_tree.specs.computed.CountedSizes.{joined, grown, is_too_large};
 
 use mono_syntax::{GREATEST_DEPTH, MOST_NODES};
 

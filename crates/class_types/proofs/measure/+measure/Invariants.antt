@@ -2,7 +2,7 @@ use Rattle.std.proofs.Common.{◌≡◌, ◌+◌, ◌*◌, drop}
 use Rattle.mono_syntax.specs.Ann.{ann_size, anns_size}
 use Rattle.mono_syntax.specs.AnnView.{anns}
 use Rattle.class_types.specs.Made.{look}
-use Rattle.mono_tree.specs.CountedSizes.{nothing}
+use Rattle.mono_tree.specs.computed.CountedSizes.{nothing}
 use Rattle.class_types.specs.Measured.{sizes_onto}
 use Rattle.class_types.proofs.measure.+measure.Given as goal
 

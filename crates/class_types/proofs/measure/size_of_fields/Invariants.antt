@@ -1,6 +1,6 @@
 use Rattle.std.proofs.Common.{◌≡◌, drop}
 use Rattle.class_types.specs.Made.{look}
-use Rattle.mono_tree.specs.CountedSizes.{nothing}
+use Rattle.mono_tree.specs.computed.CountedSizes.{nothing}
 use Rattle.class_types.specs.Measured.{fields_onto}
 use Rattle.class_types.proofs.measure.size_of_fields.Given as goal
 

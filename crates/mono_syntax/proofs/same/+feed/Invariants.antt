@@ -2,7 +2,7 @@ use Rattle.std.proofs.Common.{◌≡◌, ◌+◌, ◌*◌, drop}
 use Rattle.std.specs.Prelude.{fold}
 use Rattle.mono_syntax.specs.Ty.{ty_size, tys_size, fields_size}
 use Rattle.mono_syntax.specs.TyView.{tys, fields}
-use Rattle.mono_syntax.specs.TyEq.{tys_fed, fields_fed}
+use Rattle.mono_syntax.specs.computed.TyEq.{tys_fed, fields_fed}
 use Rattle.mono_syntax.proofs.same.+feed.Given as goal
 
 abbrev pub decreases-feed_node : goal.decreases-feed_node

@@ -3,7 +3,7 @@ use Rattle.std.specs.Slice.Iter.{iter_rest}
 use Rattle.std.specs.Iterator.Adapters.{zip_first, zip_second}
 use Rattle.mono_syntax.specs.Ty.{ty_size, tys_size, fields_size}
 use Rattle.mono_syntax.specs.TyView.{tys, fields}
-use Rattle.mono_syntax.specs.TyEq.{tys_eq, fields_eq}
+use Rattle.mono_syntax.specs.computed.TyEq.{tys_eq, fields_eq}
 use Rattle.mono_syntax.proofs.same.+same.Given as goal
 
 abbrev pub decreases-same_node : goal.decreases-same_node

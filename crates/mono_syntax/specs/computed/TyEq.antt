@@ -1,4 +1,4 @@
--- Whether two types are the same, and what a hash reads of a type.
+-- Computed: whether two types are the same, and what a hash reads of a type.
 use Rattle.std.specs.Prelude.{ℕ, List, [], ◌∷◌, ◌++◌, Bool, true, false, ◌&&◌, bytes_eq}
 use Rattle.std.specs.Hash as fed
 use Rattle.mono_syntax.specs.Ty.{Ty, dyn, int, bool, str, nil, fun, obj, Tys, no_tys, more_tys, Fields, no_fields, more_fields}

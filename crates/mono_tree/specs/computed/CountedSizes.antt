@@ -1,4 +1,4 @@
--- Sizes of types, counted up to just over the greatest that is allowed, so that a size is found without making its type.
+-- Computed: sizes of types, counted up to just over the greatest that is allowed, so that a size is found without making its type.
 use Rattle.std.specs.Prelude.{◌+◌, Bool, ◌||◌, nat_lt, min, max}
 use Rattle.mono_syntax.specs.Limits.{most_nodes, greatest_depth}
 use Rattle.mono_syntax.specs.Ty.{Ty}
