@@ -1,7 +1,7 @@
 //! Counts the tokens of a script. The script comes in, and the number of its tokens goes out, or the place of its refusal.
 #![tactic(auto)]
 
-use mono_syntax::{LoadFault, Refusal};
+use mono_syntax::{LoadFault, MOST_BYTES, Refusal};
 use py_lexer::{decode, lex};
 use std::alloc::{AllocError, Global};
 use std::io;
@@ -13,7 +13,7 @@ fn refused(alloc: Global, refusal: Refusal) -> Result<String, AllocError> {
 }
 
 fn answer(alloc: Global, bytes: &[u8]) -> Result<String, AllocError> {
-    if bytes.len() > 1048576 {
+    if bytes.len() > MOST_BYTES {
         return String::from_str(alloc, "too long");
     }
     match decode(bytes) {

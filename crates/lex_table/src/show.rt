@@ -1,10 +1,10 @@
-use mono_syntax::{LoadFault, Reason, Refusal};
+use mono_syntax::{LoadFault, MOST_BYTES, Reason, Refusal};
 use py_lexer::{Token, TokenKind, decode, lex};
 use std::alloc::{AllocError, Global};
 
 /// The tokens of the bytes, or their refusal.
 pub fn answer(alloc: Global, bytes: &[u8]) -> Result<String, AllocError> {
-    if bytes.len() > 1048576 {
+    if bytes.len() > MOST_BYTES {
         return String::from_str(alloc, "too long");
     }
     match decode(bytes) {

@@ -3,7 +3,7 @@ use Rattle.std.proofs.Common.{◌≡◌, ◌∙◌, List, ℕ, ap, sym, subst}
 use Rattle.mono_syntax.specs.declared.cast.CastScript.{CastScript}
 use Rattle.mono_syntax.specs.declared.tree.Script.{Script}
 use Rattle.load_script.specs.Phases.{IsProgramOf}
-use Rattle.tree_print.specs.Reading.{HasTree, IsGrammatical}
+use Rattle.tree_print.specs.ReadsBack.{HasTree, IsGrammatical}
 
 pub program_grammatical : (bytes : List ℕ) (p : CastScript) → IsProgramOf bytes p → IsGrammatical p.scoped.script
 program_grammatical bytes p i =

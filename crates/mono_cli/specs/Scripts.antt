@@ -8,7 +8,7 @@ use Rattle.cast_machine.specs.declared.data.Settings.{Settings}
 use Rattle.cast_machine.specs.Step.{Configuration, start_of, run_of, IsSeededRun}
 use Rattle.cast_machine.specs.Safety.{IsSafe}
 use Rattle.mono_syntax.specs.declared.tree.Script.{Script}
-use Rattle.tree_print.specs.Reading.{ReadsBack}
+use Rattle.tree_print.specs.ReadsBack.{ReadsBack}
 use Rattle.mono_cli.specs.declared.words.Verb.{Verb}
 use Rattle.mono_cli.specs.declared.words.Verb.TheVariants as verb
 use Rattle.mono_cli.specs.Answer.{Answer, refused, ended, listed}

@@ -1,6 +1,6 @@
 ghost use Rattle.std.specs.Prelude.{◌≡◌, ◌<◌, ◌≤◌, ℕ, List, Option, [], length};
 ghost use Rattle.mono_io.specs.Puts.{Puts};
-ghost use Rattle.tree_print.specs.Reading.{IsGrammatical};
+ghost use Rattle.tree_print.specs.ReadsBack.{IsGrammatical};
 ghost use Rattle.mono_cli.specs.Scripts.{IsListing};
 ghost use Rattle.mono_cli.specs.Showing.{IsShown, Shows};
 

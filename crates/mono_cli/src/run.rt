@@ -2,7 +2,7 @@ ghost use Rattle.std.specs.Prelude.{◌≡◌, ◌≤◌, length, IfOk};
 ghost use Rattle.mono_tree.specs.TypedPrograms.{IsTypedProgram};
 ghost use Rattle.mono_cli.specs.Scripts.{RunsTo, AnswersText, IsAccepted, IsRunAnswer};
 ghost use Rattle.mono_cli.specs.Showing.{Shows};
-ghost use Rattle.tree_print.specs.Reading.{IsGrammatical};
+ghost use Rattle.tree_print.specs.ReadsBack.{IsGrammatical};
 
 use crate::ends::{end_text, status_of_end};
 use crate::listing::show_listing;

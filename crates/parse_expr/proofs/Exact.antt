@@ -5,7 +5,7 @@ use Rattle.std.proofs.lemmas.Bool.{cases_lt}
 use Rattle.spelled_tokens.specs.declared.token.Spelled.{Spelled}
 use Rattle.spelled_tokens.specs.declared.token.What.TheVariants as what
 use Rattle.spelled_tokens.specs.declared.token.Mark.TheVariants as mark
-use Rattle.parse_expr.specs.Goes.{Goes}
+use Rattle.parse_expr.specs.computed.Goes.{Goes}
 use Rattle.parse_expr.specs.Stretches.{MayBegin, IsStretch}
 use Rattle.parse_expr.proofs.Goes.{no_further, not_whole}
 

@@ -1,5 +1,6 @@
 -- What holds of the runs of the expression machine.
 use Rattle.std.proofs.Common.{ℕ, ◌+◌, ◌≤◌, ◌≡◌, List, [], ◌∷◌, ◌++◌, length, None, arith, refl, ap, sym, ◌∙◌, subst}
+use Rattle.mono_syntax.specs.Limits.{greatest_weight}
 use Rattle.mono_syntax.specs.declared.leaf.Place.{Place}
 use Rattle.mono_syntax.specs.Expr.{Expr}
 use Rattle.spelled_tokens.specs.declared.token.Spelled.{Spelled}
@@ -12,8 +13,8 @@ use Rattle.parse_expr.specs.declared.machine.Mode.TheVariants as mode
 use Rattle.parse_expr.specs.Types.{word}
 use Rattle.parse_expr.specs.Grammar as g
 use Rattle.parse_expr.specs.Grammar.{Form, Derives, IsExpr}
-use Rattle.parse_expr.specs.Reading.{held, begin, step, IsLight, IsLightMode}
-use Rattle.parse_expr.specs.Goes.{Goes}
+use Rattle.parse_expr.specs.computed.Reading.{held, begin, step, IsLight, IsLightMode}
+use Rattle.parse_expr.specs.computed.Goes.{Goes}
 use Rattle.parse_expr.proofs.Goes.{goes_nil, goes_cons, none_some}
 use Rattle.parse_expr.proofs.TypeSound.{type_finish_sound}
 use Rattle.parse_expr.proofs.Sound as stands
@@ -80,7 +81,7 @@ pub exprs_at_zero : (ts : List Spelled) (m : Mode) → Goes (step 0) start ts m 
 exprs_at_zero [] m a = (refl, sym (goes_nil (step 0) a))
 exprs_at_zero (t ∷ ts) m a = let x = goes_cons (step 0) a in none_some _ (sym (no_expr_begins t.place t.what) ∙ x.1)
 
-stands_light : {r : ℕ} {k : List Frame} {ts : List Spelled} → r ≤ 100 → Stands r k ts → IsLight k
+stands_light : {r : ℕ} {k : List Frame} {ts : List Spelled} → r ≤ greatest_weight → Stands r k ts → IsLight k
 stands_light h stands.bottom = tt
 stands_light h (stands.binary l p v a k ts us s d i n) = (omega arith, stands_light h s)
 stands_light h (stands.not p k ts s i) = stands_light h s
@@ -90,7 +91,7 @@ stands_light h (stands.call p u v x i c es k ts us ds s d a n) = (omega arith, s
 stands_light h (stands.cast p q u v a k ts us s d n) = (omega arith, stands_light h s)
 
 -- the weights in a state are small
-pub sound_light : {r : ℕ} {ts : List Spelled} {m : Mode} → r ≤ 100 → Sound r ts m → IsLightMode m
+pub sound_light : {r : ℕ} {ts : List Spelled} {m : Mode} → r ≤ greatest_weight → Sound r ts m → IsLightMode m
 sound_light h (steps.wanting k ts s n) = (stands_light h s, omega arith)
 sound_light h (steps.having k ts us w x s d n) = (stands_light h s, omega arith)
 sound_light h (steps.dotted p k ts us w x s d n) = (stands_light h s, omega arith)

@@ -1,5 +1,5 @@
 -- Runs of a machine whose step is a function.
-use Rattle.parse_expr.specs.Goes.{Goes, stay, go}
+use Rattle.parse_expr.specs.computed.Goes.{Goes, stay, go}
 use Rattle.std.proofs.Common.{◌≡◌, List, [], ◌∷◌, ◌++◌, Option, Some, None, refl, ap, sym, ◌∙◌, subst}
 
 pub some_is : {A : Type 0} {x y : A} → Some x ≡ Some y → x ≡ y

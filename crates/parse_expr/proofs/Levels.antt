@@ -14,7 +14,8 @@ use Rattle.parse_expr.specs.declared.machine.Frame.{Frame}
 use Rattle.parse_expr.specs.declared.machine.Frame.TheVariants as frame
 use Rattle.parse_expr.specs.Grammar as g
 use Rattle.parse_expr.specs.Grammar.{Form, Derives, DerivesArgs, Group, comparing, adding, multiplying, group}
-use Rattle.parse_expr.specs.Reading.{group_left, group_whole, group_right, link_left, link_whole, link_right, link_tree, hole_of, hole}
+use Rattle.parse_expr.specs.Precedence.{group_left, group_whole, group_right}
+use Rattle.parse_expr.specs.computed.Reading.{link_left, link_whole, link_right, link_tree, hole_of, hole}
 
 abbrev pub form : ℕ → Form
 form zero = g.whole
@@ -79,10 +80,10 @@ heavy (g.join p q r s x) = omega arith
 abbrev pub link_what : Link → What
 link_what link.Or = what.Or
 link_what link.And = what.And
-link_what (link.Sign o) = what.Sign o
+link_what (link.Operator o) = what.Operator o
 
 group_derives : (o : Op) (c : Group) → group o ≡ c → (p : Place) (ts us : List Spelled) (v w : ℕ) (a b : Expr) → Derives (form (group_left c)) ts v a → Derives (form (group_right c)) us w b
-    → Derives (form (group_whole c)) (ts ++ (tok (what.Sign o) p ∷ us)) (suc (max v w)) (tree.binary o p a b)
+    → Derives (form (group_whole c)) (ts ++ (tok (what.Operator o) p ∷ us)) (suc (max v w)) (tree.binary o p a b)
 group_derives o comparing q p ts us v w a b d f = g.compare o p ts us v w a b q d f
 group_derives o adding q p ts us v w a b d f = g.add o p ts us v w a b q d f
 group_derives o multiplying q p ts us v w a b d f = g.multiply o p ts us v w a b q d f
@@ -91,7 +92,7 @@ pub link_derives : (l : Link) (p : Place) (ts us : List Spelled) (v w : ℕ) (a 
     → Derives (form (link_whole l)) (ts ++ (tok (link_what l) p ∷ us)) (suc (max v w)) (link_tree l p a b)
 link_derives link.Or p ts us v w a b d f = g.or p ts us v w a b d f
 link_derives link.And p ts us v w a b d f = g.and p ts us v w a b d f
-link_derives (link.Sign o) p ts us v w a b d f = group_derives o (group o) refl p ts us v w a b d f
+link_derives (link.Operator o) p ts us v w a b d f = group_derives o (group o) refl p ts us v w a b d f
 
 group_right_small : (c : Group) → group_right c ≤ 7
 group_right_small comparing = omega arith
@@ -101,7 +102,7 @@ group_right_small multiplying = omega arith
 hole_of_small : (f : Frame) → hole_of f ≤ 7
 hole_of_small (frame.Binary link.Or p a v) = omega arith
 hole_of_small (frame.Binary link.And p a v) = omega arith
-hole_of_small (frame.Binary (link.Sign o) p a v) = group_right_small (group o)
+hole_of_small (frame.Binary (link.Operator o) p a v) = group_right_small (group o)
 hole_of_small (frame.Not p) = omega arith
 hole_of_small (frame.Neg p) = omega arith
 hole_of_small frame.Bracket = omega arith

@@ -12,3 +12,4 @@ pub mod Readings
 pub mod Runs
 pub mod Exact
 pub mod Loops
+pub mod OneTree

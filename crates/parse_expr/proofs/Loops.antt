@@ -24,13 +24,13 @@ use Rattle.parse_expr.specs.declared.machine.TypeMode.TheVariants as type_mode
 use Rattle.parse_expr.specs.declared.machine.Weighed.{Weighed}
 use Rattle.parse_expr.specs.declared.machine.Next.TheVariants as next
 use Rattle.parse_expr.specs.declared.machine.TypeNext.TheVariants as type_next
-use Rattle.parse_expr.specs.TypeReading as reading
-use Rattle.parse_expr.specs.Goes.{Goes, stay, go}
+use Rattle.parse_expr.specs.computed.TypeReading as reading
+use Rattle.parse_expr.specs.computed.Goes.{Goes, stay, go}
 use Rattle.parse_expr.specs.Stretches.{MayBegin, IsRead, IsRefusedBehind}
 use Rattle.parse_expr.specs.Types.{IsType}
 use Rattle.parse_expr.specs.Grammar.{IsExpr}
-use Rattle.parse_expr.specs.TypeReading.{type_step, type_finish, type_tree}
-use Rattle.parse_expr.specs.Reading.{step, finish, next_of, cast_type, cast_comma}
+use Rattle.parse_expr.specs.computed.TypeReading.{type_step, type_finish, type_tree}
+use Rattle.parse_expr.specs.computed.Reading.{step, finish, next_of, cast_type, cast_comma}
 use Rattle.parse_expr.proofs.Goes.{then, none_some, some_is}
 use Rattle.parse_expr.proofs.Exact.{Reads, StopsAt, stretch, no_tree}
 use Rattle.parse_expr.proofs.TypeRuns.{type_start, types_at_zero, type_finish_is, type_complete}

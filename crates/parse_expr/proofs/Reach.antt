@@ -23,14 +23,15 @@ use Rattle.parse_expr.specs.declared.machine.Mode.TheVariants as mode
 use Rattle.parse_expr.specs.Grammar as g
 use Rattle.parse_expr.specs.Types.{word}
 use Rattle.parse_expr.specs.Grammar.{Form, Derives, DerivesArgs, Group, comparing, adding, multiplying, group}
-use Rattle.parse_expr.specs.TypeReading.{type_step}
+use Rattle.parse_expr.specs.computed.TypeReading.{type_step}
 use Rattle.parse_expr.proofs.Maxima.{max_left, max_right, max_assoc}
 use Rattle.parse_expr.proofs.TypeSound.{type_heavy}
 use Rattle.parse_expr.proofs.TypeReach.{type_reach}
-use Rattle.parse_expr.specs.Reading.{group_left, group_whole, group_right, link_left, link_whole, link_right, link_tree, level, hole_of, hole, join, weigh, held, settle, if_some, join_link, inner_room, close, comma, step, finish}
+use Rattle.parse_expr.specs.Precedence.{group_left, group_whole, group_right}
+use Rattle.parse_expr.specs.computed.Reading.{link_left, link_whole, link_right, link_tree, level, hole_of, hole, join, weigh, held, settle, if_some, join_link, inner_room, close, comma, step, finish}
 use Rattle.parse_expr.proofs.Levels.{heavy, link_what}
 use Rattle.parse_expr.proofs.Steps.{left_some}
-use Rattle.parse_expr.specs.Goes.{Goes, stay, go}
+use Rattle.parse_expr.specs.computed.Goes.{Goes, stay, go}
 use Rattle.parse_expr.proofs.Goes.{then}
 
 abbrev pub lev : Form → ℕ
@@ -54,7 +55,7 @@ group_order multiplying = (omega arith, omega arith, omega arith, omega arith)
 link_order : (l : Link) → (link_whole l < link_right l) × (link_whole l ≤ link_left l) × (3 ≤ link_whole l → 4 ≤ link_left l) × (link_whole l ≤ 6)
 link_order link.Or = (omega arith, omega arith, (λ h. omega arith), omega arith)
 link_order link.And = (omega arith, omega arith, (λ h. omega arith), omega arith)
-link_order (link.Sign o) = let q = group_order (group o) in (q.0, q.1, (λ h. q.2), q.3)
+link_order (link.Operator o) = let q = group_order (group o) in (q.0, q.1, (λ h. q.2), q.3)
 
 -- a frame in whose hole an operator may stand isn't closed by it
 looser : (l : Link) (f : Frame) → hole_of f ≤ link_whole l → level f < link_left l
@@ -114,7 +115,7 @@ link_step : (r : ℕ) (l : Link) (p : Place) (fs k : List Frame) (x a : Expr) (v
     → step r (mode.Have (held fs x v)) (tok (link_what l) p) ≡ Some (mode.Want (frame.Binary l p a w ∷ k))
 link_step r link.Or p fs k x a v w c h n = joined r link.Or p fs k x a v w c h n
 link_step r link.And p fs k x a v w c h n = joined r link.And p fs k x a v w c h n
-link_step r (link.Sign o) p fs k x a v w c h n = joined r (link.Sign o) p fs k x a v w c h n
+link_step r (link.Operator o) p fs k x a v w c h n = joined r (link.Operator o) p fs k x a v w c h n
 
 -- behind a prefix
 prefix_reach : (r : ℕ) (f : Frame) (l : ℕ) (t : Spelled) (ts : List Spelled) (w : ℕ) (e : Expr) (k : List Frame) → step r (mode.Want k) t ≡ Some (mode.Want (f ∷ k)) → l ≤ level f → Reached r l (f ∷ k) ts e w
@@ -149,7 +150,7 @@ exactly {r = r} {k = k} {ts = ts} h x = is x.closes h x.goes
     level_small : (f : Frame) → level f ≤ 7
     level_small (frame.Binary link.Or p a v) = omega arith
     level_small (frame.Binary link.And p a v) = omega arith
-    level_small (frame.Binary (link.Sign o) p a v) = small (group o)
+    level_small (frame.Binary (link.Operator o) p a v) = small (group o)
       where
         small : (c : Group) → group_whole c ≤ 7
         small comparing = omega arith
@@ -180,7 +181,7 @@ held_open (frame.Binary l p a v) k e w z = let x : 1 ≤ link_whole l = first l 
     first : (l : Link) → 1 ≤ link_whole l
     first link.Or = omega arith
     first link.And = omega arith
-    first (link.Sign o) = first_group (group o)
+    first (link.Operator o) = first_group (group o)
 held_open (frame.Not p) k e w z = absurd (omega arith)
 held_open (frame.Neg p) k e w z = absurd (omega arith)
 
@@ -221,25 +222,25 @@ mutual
   reach r (g.comparison_sum ts w e d) k h n = freer (omega arith) (reach r d k (omega arith) n)
   reach r (g.compare o p ts us w v a b c d f) k h n =
       let q = group_loose o comparing c in
-      binary_reach r (link.Sign o) p ts us w v a b k 4 (omega (arith, q.0)) (omega (arith, q.0)) (omega (arith, q.0)) n
+      binary_reach r (link.Operator o) p ts us w v a b k 4 (omega (arith, q.0)) (omega (arith, q.0)) (omega (arith, q.0)) n
       (freer (omega (arith, q.1)) (reach r d k (omega arith) (let m = max_left w v (length k) r n in omega arith)))
-      (freer (omega (arith, q.0)) (reach r f (frame.Binary (link.Sign o) p a w ∷ k) (omega (arith, q.2)) (max_right w v (length k) r n)))
+      (freer (omega (arith, q.0)) (reach r f (frame.Binary (link.Operator o) p a w ∷ k) (omega (arith, q.2)) (max_right w v (length k) r n)))
   reach r (g.sum_term ts w e d) k h n = freer (omega arith) (reach r d k (omega arith) n)
   reach r (g.add o p ts us w v a b c d f) k h n =
       let q = group_loose o adding c in
-      binary_reach r (link.Sign o) p ts us w v a b k 5 (omega (arith, q.0)) (omega (arith, q.0)) (omega (arith, q.0)) n
+      binary_reach r (link.Operator o) p ts us w v a b k 5 (omega (arith, q.0)) (omega (arith, q.0)) (omega (arith, q.0)) n
       (freer (omega (arith, q.1)) (reach r d k (omega arith) (let m = max_left w v (length k) r n in omega arith)))
-      (freer (omega (arith, q.0)) (reach r f (frame.Binary (link.Sign o) p a w ∷ k) (omega (arith, q.2)) (max_right w v (length k) r n)))
+      (freer (omega (arith, q.0)) (reach r f (frame.Binary (link.Operator o) p a w ∷ k) (omega (arith, q.2)) (max_right w v (length k) r n)))
   reach r (g.term_factor ts w e d) k h n = freer (omega arith) (reach r d k (omega arith) n)
   reach r (g.multiply o p ts us w v a b c d f) k h n =
       let q = group_loose o multiplying c in
-      binary_reach r (link.Sign o) p ts us w v a b k 6 (omega (arith, q.0)) (omega (arith, q.0)) (omega (arith, q.0)) n
+      binary_reach r (link.Operator o) p ts us w v a b k 6 (omega (arith, q.0)) (omega (arith, q.0)) (omega (arith, q.0)) n
       (freer (omega (arith, q.1)) (reach r d k (omega arith) (let m = max_left w v (length k) r n in omega arith)))
-      (freer (omega (arith, q.0)) (reach r f (frame.Binary (link.Sign o) p a w ∷ k) (omega (arith, q.2)) (max_right w v (length k) r n)))
+      (freer (omega (arith, q.0)) (reach r f (frame.Binary (link.Operator o) p a w ∷ k) (omega (arith, q.2)) (max_right w v (length k) r n)))
   reach r (g.factor_postfix ts w e d) k h n = freer (omega arith) (reach r d k (omega arith) n)
   reach r (g.negate p ts w e d) k h n =
       let y = heavy d in
-      prefix_reach r (frame.Neg p) 7 (tok (what.Sign op.Sub) p) ts w e k (rw (lt-ltb (suc (length k)) r (omega arith)) refl) (omega arith)
+      prefix_reach r (frame.Neg p) 7 (tok (what.Operator op.Sub) p) ts w e k (rw (lt-ltb (suc (length k)) r (omega arith)) refl) (omega arith)
       (reach r d (frame.Neg p ∷ k) (omega arith) (omega arith))
   reach r (g.postfix_atom ts w e d) k h n = freer (omega arith) (reach r d k (omega arith) n)
   reach r (g.attribute p q x ts w e d) k h n =

@@ -1,5 +1,6 @@
 -- The two machines read the grammar: what is derived is read, what is read is derived, and each run can be completed.
 use Rattle.std.proofs.Common.{ℕ, zero, suc, ◌≤◌, ◌≡◌, max, List, [], ◌∷◌, ◌++◌, Some, arith, refl, ap, sym, ◌∙◌, subst}
+use Rattle.mono_syntax.specs.Limits.{greatest_weight}
 use Rattle.std.proofs.Math.Nat.{le-max_left, le-max_right}
 use Rattle.mono_syntax.specs.Ann.{Ann}
 use Rattle.mono_syntax.specs.Expr.{Expr}
@@ -11,10 +12,10 @@ use Rattle.parse_expr.specs.declared.machine.Mode.TheVariants as mode
 use Rattle.parse_expr.specs.Types.{DerivesType, IsType}
 use Rattle.parse_expr.specs.Grammar as g
 use Rattle.parse_expr.specs.Grammar.{Form, Derives, IsExpr}
-use Rattle.parse_expr.specs.TypeReading.{type_step, type_finish, type_tree, IsLightType}
-use Rattle.parse_expr.specs.Reading.{held, begin, inner_room, step, finish, IsLight, IsLightMode}
-use Rattle.parse_expr.specs.Reading as reading
-use Rattle.parse_expr.specs.Goes.{Goes}
+use Rattle.parse_expr.specs.computed.TypeReading.{type_step, type_finish, type_tree, IsLightType}
+use Rattle.parse_expr.specs.computed.Reading.{held, begin, inner_room, step, finish, IsLight, IsLightMode}
+use Rattle.parse_expr.specs.computed.Reading as reading
+use Rattle.parse_expr.specs.computed.Goes.{Goes}
 use Rattle.parse_expr.proofs.Goes.{one, remains, goes_nil, none_some}
 use Rattle.parse_expr.proofs.TypeSound.{type_start_sound, type_goes_sound, type_viable}
 use Rattle.parse_expr.proofs.TypeReach.{type_reach}
@@ -43,7 +44,7 @@ type_alive r h ts m x =
     (c.more, c.ann, c.weight, remains (type_step r) ts c.more type_start m _ x a)
 
 -- the weights in the states of a run are small
-pub type_light : (r : ℕ) (ts : List Spelled) (m : TypeMode) → r ≤ 100 → Goes (type_step r) (type_mode.Want []) ts m → IsLightType m
+pub type_light : (r : ℕ) (ts : List Spelled) (m : TypeMode) → r ≤ greatest_weight → Goes (type_step r) (type_mode.Want []) ts m → IsLightType m
 type_light zero ts m h a = subst IsLightType (sym (types_at_zero ts m a).1) tt
 type_light (suc r) ts m h a = type_sound_light h (type_goes_sound (type_start_sound (suc r) (omega arith)) a)
 
@@ -86,7 +87,7 @@ expr_some r [] e x = let y = expr_goes r [] e x in none_some _ (ap finish (goes_
 expr_some r (t ∷ us) e x = (t, us, refl)
 
 -- the weights in the states of a run are small
-pub expr_light : (r : ℕ) (ts : List Spelled) (m : Mode) → r ≤ 100 → Goes (step r) (mode.Want []) ts m → IsLightMode m
+pub expr_light : (r : ℕ) (ts : List Spelled) (m : Mode) → r ≤ greatest_weight → Goes (step r) (mode.Want []) ts m → IsLightMode m
 expr_light zero ts m h a = subst IsLightMode (sym (exprs_at_zero ts m a).1) (tt, omega arith)
 expr_light (suc r) ts m h a = sound_light h (goes_sound (sound_start (suc r) (omega arith)) a)
 

@@ -5,7 +5,7 @@ use Rattle.mono_syntax.specs.Expr.{Expr}
 use Rattle.parse_expr.specs.declared.machine.Frame.{Frame}
 use Rattle.parse_expr.specs.declared.machine.Held.{Held}
 use Rattle.parse_expr.specs.declared.machine.Mode.TheVariants as mode
-use Rattle.parse_expr.specs.Reading.{link_left, level, join, weigh, held, settle, cast_comma, cast_type, is_comma, cast_closed, cast_next, next_of, finish}
+use Rattle.parse_expr.specs.computed.Reading.{link_left, level, join, weigh, held, settle, cast_comma, cast_type, is_comma, cast_closed, cast_next, next_of, finish}
 use Rattle.parse_expr.proofs.Steps.{split, left_some}
 use Rattle.parse_expr.specs.declared.machine.Link.{Link}
 use Rattle.mono_syntax.specs.declared.leaf.Place.{Place}
@@ -13,7 +13,7 @@ use Rattle.spelled_tokens.specs.declared.token.What.{What}
 use Rattle.spelled_tokens.specs.declared.token.What.TheVariants as what
 use Rattle.parse_expr.specs.declared.machine.TypeMode.{TypeMode}
 use Rattle.parse_expr.specs.declared.machine.Weighed.{Weighed}
-use Rattle.parse_expr.specs.TypeReading.{type_next}
+use Rattle.parse_expr.specs.computed.TypeReading.{type_next}
 use Rattle.parse_expr.proofs.Reach.{finish_closes}
 
 -- what a token closes would be closed at the end too

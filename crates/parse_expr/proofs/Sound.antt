@@ -17,8 +17,8 @@ use Rattle.parse_expr.specs.declared.machine.Frame.TheVariants as frame
 use Rattle.parse_expr.specs.Grammar as g
 use Rattle.parse_expr.specs.Types.{DerivesType}
 use Rattle.parse_expr.specs.Grammar.{Form, Derives, DerivesArgs, IsExpr}
-use Rattle.parse_expr.specs.Stretches.{Begins}
-use Rattle.parse_expr.specs.Reading.{link_left, link_whole, hole_of, hole, join, weigh}
+use Rattle.parse_expr.specs.Stretches.{BeginsTree}
+use Rattle.parse_expr.specs.computed.Reading.{link_left, link_whole, hole_of, hole, join, weigh}
 use Rattle.parse_expr.proofs.Maxima.{max_light, max_assoc}
 use Rattle.parse_expr.proofs.Levels.{form, down, link_what, link_derives, hole_small}
 use Rattle.parse_expr.proofs.TypeSound.{somewhere}
@@ -46,7 +46,7 @@ pub data Stands (r : ℕ) : List Frame → List Spelled → Type 0 where
   binary : (l : Link) (p : Place) (v : ℕ) (a : Expr) (k : List Frame) (ts us : List Spelled) → Stands r k ts → Derives (form (link_left l)) us v a → hole k ≤ link_whole l → suc v + length k ≤ r
       → Stands r (frame.Binary l p a v ∷ k) (ts ++ (us ++ (tok (link_what l) p ∷ [])))
   not : (p : Place) (k : List Frame) (ts : List Spelled) → Stands r k ts → hole k ≤ 3 → Stands r (frame.Not p ∷ k) (ts ++ (tok what.Not p ∷ []))
-  neg : (p : Place) (k : List Frame) (ts : List Spelled) → Stands r k ts → Stands r (frame.Neg p ∷ k) (ts ++ (tok (what.Sign op.Sub) p ∷ []))
+  neg : (p : Place) (k : List Frame) (ts : List Spelled) → Stands r k ts → Stands r (frame.Neg p ∷ k) (ts ++ (tok (what.Operator op.Sub) p ∷ []))
   bracket : (p : Place) (k : List Frame) (ts : List Spelled) → Stands r k ts → Stands r (frame.Bracket ∷ k) (ts ++ (tok what.Open p ∷ []))
   call : (p : Place) (u v x : ℕ) → x ≡ max u v → (c : Expr) (es : List Expr) (k : List Frame) (ts us ds : List Spelled) → Stands r k ts → Derives g.postfix us u c → Done ds v es → suc x + length k ≤ r
       → Stands r (frame.Call p c x es ∷ k) (ts ++ (us ++ (tok what.Open p ∷ ds)))
@@ -105,7 +105,7 @@ shut q us w e (not p k ts s h) x m =
 shut q us w e (neg p k ts s) x m =
     record {
       front = ts;
-      part = tok (what.Sign op.Sub) p ∷ us;
+      part = tok (what.Operator op.Sub) p ∷ us;
       stands = s;
       derives = g.negate p us w e x;
       fits = hole_small k;
@@ -146,7 +146,7 @@ shut {r = r} q us w e (cast p t o v a k ts vs s d n) x m =
     }
 
 -- a part in its place makes a prefix of an expression
-pub plug : {r : ℕ} (k : List Frame) (ts us : List Spelled) (w : ℕ) (e : Expr) → Stands r k ts → Derives (form (hole k)) us w e → w + length k ≤ r → Begins (IsExpr r) (ts ++ us)
+pub plug : {r : ℕ} (k : List Frame) (ts us : List Spelled) (w : ℕ) (e : Expr) → Stands r k ts → Derives (form (hole k)) us w e → w + length k ≤ r → BeginsTree (IsExpr r) (ts ++ us)
 plug [] [] us w e bottom d m = ([], e, (w, derives_at (sym (append-nil us)) d, omega arith))
 plug [] (t ∷ ts) us w e s d m = elim s [ ]
 plug {r = r} (f ∷ k) ts us w e s d m =

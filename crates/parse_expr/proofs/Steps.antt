@@ -27,13 +27,14 @@ use Rattle.parse_expr.specs.declared.machine.Mode.TheVariants as mode
 use Rattle.parse_expr.specs.Grammar as g
 use Rattle.parse_expr.specs.Types.{DerivesType, word}
 use Rattle.parse_expr.specs.Grammar.{Form, Derives, DerivesArgs, IsExpr, Group, comparing, adding, multiplying, group}
-use Rattle.parse_expr.specs.Stretches.{Begins}
-use Rattle.parse_expr.specs.TypeReading.{type_step, type_finish}
-use Rattle.parse_expr.specs.Goes.{Goes, stay, go}
+use Rattle.parse_expr.specs.Stretches.{BeginsTree}
+use Rattle.parse_expr.specs.computed.TypeReading.{type_step, type_finish}
+use Rattle.parse_expr.specs.computed.Goes.{Goes, stay, go}
 use Rattle.parse_expr.proofs.Goes.{some_is, none_some}
 use Rattle.parse_expr.proofs.Maxima.{max_light, max_assoc}
 use Rattle.parse_expr.proofs.TypeSound.{somewhere, TypeSound, type_step_sound, type_finish_sound, type_start_sound, type_viable}
-use Rattle.parse_expr.specs.Reading.{group_left, link_left, link_whole, level, hole_of, hole, join, weigh, held, settle, close_empty, is_minus, if_some, begin, join_link, close_at, comma_at, go_on, field_at, cast_open, cast_comma, cast_type, inner_room, join_open, join_name, join_close, step, whole_at, finish}
+use Rattle.parse_expr.specs.Precedence.{group_left}
+use Rattle.parse_expr.specs.computed.Reading.{link_left, link_whole, level, hole_of, hole, join, weigh, held, settle, close_empty, is_minus, if_some, begin, join_link, close_at, comma_at, go_on, field_at, cast_open, cast_comma, cast_type, inner_room, join_open, join_name, join_close, step, whole_at, finish}
 use Rattle.parse_expr.proofs.Levels.{form, down, heavy, link_what, hole_small}
 use Rattle.parse_expr.proofs.Sound.{Done, start, next, done_args, args_at, Stands, bottom, binary, not, neg, bracket, call, cast, closing, shut_level, shut, plug}
 
@@ -75,7 +76,7 @@ link_open multiplying = omega arith
 pub left_some : (l : Link) → 1 ≤ link_left l
 left_some link.Or = omega arith
 left_some link.And = omega arith
-left_some (link.Sign o) = link_open (group o)
+left_some (link.Operator o) = link_open (group o)
 
 link_left_small : (c : Group) → group_left c ≤ 8
 link_left_small comparing = omega arith
@@ -85,7 +86,7 @@ link_left_small multiplying = omega arith
 left_small : (l : Link) → link_left l ≤ 8
 left_small link.Or = omega arith
 left_small link.And = omega arith
-left_small (link.Sign o) = link_left_small (group o)
+left_small (link.Operator o) = link_left_small (group o)
 
 pub open_frame : (q : Place) (f : Frame) → 1 ≤ level f → (closing q f ≡ []) × (shut_level f ≡ level f)
 open_frame q (frame.Binary l p a v) h = (refl, refl)
@@ -171,11 +172,11 @@ begin_sound {r = r} k ts p what.Not n s h e =
     let j = and_parts (nat_lt (suc (length k)) r) (nat_le (hole k) 3) i.0 in
     let l : suc (length k) < r = ltb-true _ _ j.0 in
     sound_at refl i.1 (wanting (frame.Not p ∷ k) _ (not p k ts s (leb-true _ _ j.1)) (omega arith))
-begin_sound {r = r} k ts p (what.Sign o) n s h e =
+begin_sound {r = r} k ts p (what.Operator o) n s h e =
     let i = if_some_is (nat_lt (suc (length k)) r && is_minus o) _ n e in
     let j = and_parts (nat_lt (suc (length k)) r) (is_minus o) i.0 in
     let l : suc (length k) < r = ltb-true _ _ j.0 in
-    sound_at (ap (λ z. ts ++ (tok (what.Sign z) p ∷ [])) (sym (minus_is o j.1))) i.1 (wanting (frame.Neg p ∷ k) _ (neg p k ts s) (omega arith))
+    sound_at (ap (λ z. ts ++ (tok (what.Operator z) p ∷ [])) (sym (minus_is o j.1))) i.1 (wanting (frame.Neg p ∷ k) _ (neg p k ts s) (omega arith))
 begin_sound {r = r} k ts p what.Open n s h e =
     let i = if_some_is (nat_lt (suc (length k)) r) _ n e in
     let l : suc (length k) < r = ltb-true _ _ i.0 in
@@ -252,8 +253,8 @@ go_on_sound {r = r} k ts us w e p what.Open n s d h m i =
     sound_at (sym (append_assoc ts us _)) j.1 (wanting (frame.Call p e w [] ∷ k) _ (call p w 0 w (sym (max-zero w)) e [] k ts us [] s d start (omega arith)) (omega arith))
 go_on_sound k ts us w e p what.Or n s d h m i = join_link_sound link.Or p _ n (settled 1 (omega arith) k ts us w e 8 s d (omega arith) h m) i
 go_on_sound k ts us w e p what.And n s d h m i = join_link_sound link.And p _ n (settled 2 (omega arith) k ts us w e 8 s d (omega arith) h m) i
-go_on_sound k ts us w e p (what.Sign o) n s d h m i =
-    join_link_sound (link.Sign o) p _ n (settled (link_left (link.Sign o)) (left_some (link.Sign o)) k ts us w e 8 s d (left_small (link.Sign o)) h m) i
+go_on_sound k ts us w e p (what.Operator o) n s d h m i =
+    join_link_sound (link.Operator o) p _ n (settled (link_left (link.Operator o)) (left_some (link.Operator o)) k ts us w e 8 s d (left_small (link.Operator o)) h m) i
 go_on_sound k ts us w e p what.Close n s d h m i = close_sound _ p n (settled 1 (omega arith) k ts us w e 8 s d (omega arith) h m) i
 go_on_sound k ts us w e p what.Comma n s d h m i = comma_sound _ p n (settled 1 (omega arith) k ts us w e 8 s d (omega arith) h m) i
 go_on_sound k ts us w e p t n s d h m i = none_some _ i
@@ -330,21 +331,21 @@ finish_sound (join_word p k ts s h) e i = none_some _ i
 finish_sound (join_opened p q k ts s h) e i = none_some _ i
 finish_sound (join_named p q o x k ts s h) e i = none_some _ i
 
-begins_less : {r : ℕ} (ts us : List Spelled) → Begins (IsExpr r) (ts ++ us) → Begins (IsExpr r) ts
+begins_less : {r : ℕ} (ts us : List Spelled) → BeginsTree (IsExpr r) (ts ++ us) → BeginsTree (IsExpr r) ts
 begins_less {r = r} ts us b = (us ++ b.0, b.1, subst (λ xs. IsExpr r xs b.1) (append_assoc ts us b.0) b.2)
 
 -- a postfix in its place
-plug_postfix : {r : ℕ} {k : List Frame} {ts : List Spelled} (us : List Spelled) (w : ℕ) (e : Expr) → Stands r k ts → Derives g.postfix us w e → w + length k ≤ r → Begins (IsExpr r) (ts ++ us)
+plug_postfix : {r : ℕ} {k : List Frame} {ts : List Spelled} (us : List Spelled) (w : ℕ) (e : Expr) → Stands r k ts → Derives g.postfix us w e → w + length k ≤ r → BeginsTree (IsExpr r) (ts ++ us)
 plug_postfix {k = k} {ts = ts} us w e s d m = plug k ts us w e s (down 8 (hole k) (omega (arith, hole_small k)) us w e d) m
 
 -- tokens that a postfix completes
 begins_at : {r : ℕ} {k : List Frame} {ts : List Spelled} (done more us : List Spelled) (w : ℕ) (e : Expr) → Stands r k ts → Derives g.postfix us w e → w + length k ≤ r → ts ++ us ≡ done ++ more
-    → Begins (IsExpr r) done
-begins_at {r = r} done more us w e s d m q = begins_less done more (subst (λ xs. Begins (IsExpr r) xs) q (plug_postfix us w e s d m))
+    → BeginsTree (IsExpr r) done
+begins_at {r = r} done more us w e s d m q = begins_less done more (subst (λ xs. BeginsTree (IsExpr r) xs) q (plug_postfix us w e s d m))
 
 -- a cast whose type was read
 cast_viable : {r : ℕ} {k : List Frame} {ts : List Spelled} (p q : Place) (us vs : List Spelled) (v : ℕ) (a : Ann) → Stands r k ts → suc (suc (length k)) ≤ r → DerivesType (us ++ vs) v a → v ≤ inner_room r k
-    → Begins (IsExpr r) (ts ++ (tok what.Cast p ∷ tok what.Open q ∷ us))
+    → BeginsTree (IsExpr r) (ts ++ (tok what.Cast p ∷ tok what.Open q ∷ us))
 cast_viable {r = r} {k = k} {ts = ts} p q us vs v a s h d l =
     let z = somewhere in
     let rest : List Spelled = tok what.Comma z ∷ tok (what.Name []) z ∷ tok what.Close z ∷ [] in
@@ -353,12 +354,12 @@ cast_viable {r = r} {k = k} {ts = ts} p q us vs v a s h d l =
     (g.postfix_atom _ _ _ (g.cast p q z z (us ++ vs) (tok (what.Name []) z ∷ []) v 1 a _ d name)) (max_light v 1 (length k) r (omega arith) (omega arith)) (simp append_assoc)
 
 join_viable : {r : ℕ} {k : List Frame} {ts : List Spelled} (done more : List Spelled) (p q o c : Place) (x : List ℕ) → Stands r k ts → suc (length k) ≤ r
-    → ts ++ (tok what.Join p ∷ tok what.Open q ∷ tok (what.Name x) o ∷ tok what.Close c ∷ []) ≡ done ++ more → Begins (IsExpr r) done
+    → ts ++ (tok what.Join p ∷ tok what.Open q ∷ tok (what.Name x) o ∷ tok what.Close c ∷ []) ≡ done ++ more → BeginsTree (IsExpr r) done
 join_viable done more p q o c x s h e =
     begins_at done more (tok what.Join p ∷ tok what.Open q ∷ tok (what.Name x) o ∷ tok what.Close c ∷ []) 1 _ s (g.postfix_atom _ _ _ (g.join p q o c x)) (omega arith) e
 
 -- each state has a completion
-pub viable : {r : ℕ} {ts : List Spelled} {m : Mode} → Sound r ts m → Begins (IsExpr r) ts
+pub viable : {r : ℕ} {ts : List Spelled} {m : Mode} → Sound r ts m → BeginsTree (IsExpr r) ts
 viable (wanting k ts s h) = begins_at ts _ (tok (what.Name []) somewhere ∷ []) 1 _ s (g.postfix_atom _ _ _ (g.name somewhere [])) (omega arith) refl
 viable (having k ts us w e s d m) = plug_postfix us w e s d m
 viable (dotted p k ts us w e s d m) =
@@ -367,7 +368,7 @@ viable (dotted p k ts us w e s d m) =
 viable {r = r} (cast_word p k ts s h) =
     let c = type_viable (type_start_sound (inner_room r k) (omega arith)) in
     let b = cast_viable p somewhere [] c.more c.weight c.ann s h c.derives c.light in
-    begins_less (ts ++ (tok what.Cast p ∷ [])) (tok what.Open somewhere ∷ []) (subst (λ xs. Begins (IsExpr r) xs) (simp append_assoc) b)
+    begins_less (ts ++ (tok what.Cast p ∷ [])) (tok what.Open somewhere ∷ []) (subst (λ xs. BeginsTree (IsExpr r) xs) (simp append_assoc) b)
 viable (cast_in p q k ts us m s h x) = let c = type_viable x in cast_viable p q us c.more c.weight c.ann s h c.derives c.light
 viable (join_word p k ts s h) =
     let z = somewhere in

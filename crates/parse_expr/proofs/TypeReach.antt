@@ -18,8 +18,8 @@ use Rattle.parse_expr.specs.declared.machine.TypeMode.{TypeMode}
 use Rattle.parse_expr.specs.declared.machine.TypeMode.TheVariants as mode
 use Rattle.parse_expr.specs.Types as g
 use Rattle.parse_expr.specs.Types.{DerivesType, DerivesTypes, DerivesTypeRow, word}
-use Rattle.parse_expr.specs.TypeReading.{type_if, type_mark, type_begin, type_first_mark, type_first, type_step}
-use Rattle.parse_expr.specs.Goes.{Goes, stay, go}
+use Rattle.parse_expr.specs.computed.TypeReading.{type_if, type_mark, type_begin, type_first_mark, type_first, type_step}
+use Rattle.parse_expr.specs.computed.Goes.{Goes, stay, go}
 use Rattle.parse_expr.proofs.Goes.{then, goes_cons, none_some}
 use Rattle.parse_expr.proofs.Maxima.{max_left, max_right, max_assoc}
 use Rattle.parse_expr.proofs.TypeSound.{type_heavy}

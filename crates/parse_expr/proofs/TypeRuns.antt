@@ -1,5 +1,6 @@
 -- What holds of the runs of the type machine.
 use Rattle.std.proofs.Common.{ℕ, zero, suc, ◌≤◌, ◌≡◌, List, [], ◌∷◌, Some, None, arith, refl, ap, sym, ◌∙◌}
+use Rattle.mono_syntax.specs.Limits.{greatest_weight}
 use Rattle.mono_syntax.specs.declared.leaf.Place.{Place}
 use Rattle.mono_syntax.specs.Ann.{Ann}
 use Rattle.spelled_tokens.specs.declared.token.Spelled.{Spelled}
@@ -12,8 +13,8 @@ use Rattle.parse_expr.specs.declared.machine.TypeMode.{TypeMode}
 use Rattle.parse_expr.specs.declared.machine.TypeMode.TheVariants as type_mode
 use Rattle.parse_expr.specs.declared.machine.Weighed.{Weighed}
 use Rattle.parse_expr.specs.Types.{IsType}
-use Rattle.parse_expr.specs.TypeReading.{type_mark, type_begin, type_behind, type_step, type_finish, type_tree, AreLightTypes, IsLightType}
-use Rattle.parse_expr.specs.Goes.{Goes}
+use Rattle.parse_expr.specs.computed.TypeReading.{type_mark, type_begin, type_behind, type_step, type_finish, type_tree, AreLightTypes, IsLightType}
+use Rattle.parse_expr.specs.computed.Goes.{Goes}
 use Rattle.parse_expr.proofs.Goes.{goes_nil, goes_cons, none_some}
 use Rattle.parse_expr.proofs.TypeSound as types
 use Rattle.parse_expr.proofs.TypeSound.{TypeStands, TypeSound, type_start_sound, type_goes_sound, type_finish_sound, type_viable}
@@ -54,13 +55,13 @@ type_stays r a w t = no_more t.what
     no_more (what.Mark m) = refl
     no_more b = refl
 
-type_stands_light : {r : ℕ} {k : List TypeFrame} {ts : List Spelled} → r ≤ 100 → TypeStands r k ts → AreLightTypes k
+type_stands_light : {r : ℕ} {k : List TypeFrame} {ts : List Spelled} → r ≤ greatest_weight → TypeStands r k ts → AreLightTypes k
 type_stands_light h types.bottom = tt
 type_stands_light h (types.params p q s v xs k ts ds x y l) = (omega arith, type_stands_light h x)
 type_stands_light h (types.result p q s u o v xs k ts ds x y l) = (omega arith, type_stands_light h x)
 
 -- the weights in a state are small
-pub type_sound_light : {r : ℕ} {ts : List Spelled} {m : TypeMode} → r ≤ 100 → TypeSound r ts m → IsLightType m
+pub type_sound_light : {r : ℕ} {ts : List Spelled} {m : TypeMode} → r ≤ greatest_weight → TypeSound r ts m → IsLightType m
 type_sound_light h (types.wanting k ts s l) = type_stands_light (omega arith) s
 type_sound_light h (types.outer p k ts s l) = (type_stands_light (omega arith) s, omega arith)
 type_sound_light h (types.inner p q k ts s l) = (type_stands_light (omega arith) s, omega arith)

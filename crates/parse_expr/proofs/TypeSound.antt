@@ -20,8 +20,8 @@ use Rattle.parse_expr.specs.declared.machine.TypeMode.TheVariants as mode
 use Rattle.parse_expr.specs.declared.machine.Weighed.{Weighed}
 use Rattle.parse_expr.specs.Types as g
 use Rattle.parse_expr.specs.Types.{DerivesType, DerivesTypes, DerivesTypeRow, word}
-use Rattle.parse_expr.specs.TypeReading.{type_if, type_mark, type_begin, type_outer, type_inner, type_first_mark, type_first, type_between, type_comma, type_close, type_behind, type_step, type_whole, type_finish}
-use Rattle.parse_expr.specs.Goes.{Goes, stay, go}
+use Rattle.parse_expr.specs.computed.TypeReading.{type_if, type_mark, type_begin, type_outer, type_inner, type_first_mark, type_first, type_between, type_comma, type_close, type_behind, type_step, type_whole, type_finish}
+use Rattle.parse_expr.specs.computed.Goes.{Goes, stay, go}
 use Rattle.parse_expr.proofs.Goes.{some_is, none_some}
 use Rattle.parse_expr.proofs.Maxima.{max_light, max_assoc}
 

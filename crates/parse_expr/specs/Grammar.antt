@@ -57,16 +57,16 @@ mutual
         → Derives not_expr (tok what.Not p ∷ ts) (suc w) (expr.negation p e)
     comparison_sum : (ts : List Spelled) (w : ℕ) (e : expr.Expr) → Derives sum ts w e → Derives comparison ts w e
     compare : (o : Op) (p : Place) (ts us : List Spelled) (w v : ℕ) (a b : expr.Expr) → group o ≡ comparing → Derives sum ts w a → Derives sum us v b
-        → Derives comparison (ts ++ (tok (what.Sign o) p ∷ us)) (suc (max w v)) (expr.binary o p a b)
+        → Derives comparison (ts ++ (tok (what.Operator o) p ∷ us)) (suc (max w v)) (expr.binary o p a b)
     sum_term : (ts : List Spelled) (w : ℕ) (e : expr.Expr) → Derives term ts w e → Derives sum ts w e
     add : (o : Op) (p : Place) (ts us : List Spelled) (w v : ℕ) (a b : expr.Expr) → group o ≡ adding → Derives sum ts w a → Derives term us v b
-        → Derives sum (ts ++ (tok (what.Sign o) p ∷ us)) (suc (max w v)) (expr.binary o p a b)
+        → Derives sum (ts ++ (tok (what.Operator o) p ∷ us)) (suc (max w v)) (expr.binary o p a b)
     term_factor : (ts : List Spelled) (w : ℕ) (e : expr.Expr) → Derives factor ts w e → Derives term ts w e
     multiply : (o : Op) (p : Place) (ts us : List Spelled) (w v : ℕ) (a b : expr.Expr) → group o ≡ multiplying → Derives term ts w a → Derives factor us v b
-        → Derives term (ts ++ (tok (what.Sign o) p ∷ us)) (suc (max w v)) (expr.binary o p a b)
+        → Derives term (ts ++ (tok (what.Operator o) p ∷ us)) (suc (max w v)) (expr.binary o p a b)
     factor_postfix : (ts : List Spelled) (w : ℕ) (e : expr.Expr) → Derives postfix ts w e → Derives factor ts w e
     negate : (p : Place) (ts : List Spelled) (w : ℕ) (e : expr.Expr) → Derives factor ts w e
-        → Derives factor (tok (what.Sign op.Sub) p ∷ ts) (suc w) (expr.neg p e)
+        → Derives factor (tok (what.Operator op.Sub) p ∷ ts) (suc w) (expr.neg p e)
     postfix_atom : (ts : List Spelled) (w : ℕ) (e : expr.Expr) → Derives atom ts w e → Derives postfix ts w e
     attribute : (p q : Place) (x : List ℕ) (ts : List Spelled) (w : ℕ) (e : expr.Expr) → Derives postfix ts w e
         → Derives postfix (ts ++ (tok what.Dot p ∷ tok (what.Name x) q ∷ [])) (suc w) (expr.read e (word x q))
@@ -92,6 +92,10 @@ mutual
     last_arg : (ts : List Spelled) (w : ℕ) (e : expr.Expr) → Derives whole ts w e → DerivesArgs ts w (e ∷ [])
     more_args : (p : Place) (ts us : List Spelled) (w v : ℕ) (e : expr.Expr) (es : List expr.Expr) → Derives whole ts w e → DerivesArgs us v es
         → DerivesArgs (ts ++ (tok what.Comma p ∷ us)) (max w v) (e ∷ es)
+
+-- tokens are at most one expression, of whatever weight
+abbrev pub OneExpression : Type 0
+OneExpression = (ts : List Spelled) (v w : ℕ) (a b : expr.Expr) → Derives whole ts v a → Derives whole ts w b → a ≡ b
 
 -- an expression of a weight that fits in the room
 abbrev pub IsExpr : ℕ → List Spelled → expr.Expr → Type 0

@@ -11,12 +11,12 @@ use Rattle.spelled_tokens.specs.SpelledTokens.{all_spelled}
 -- trees of a kind, by their tokens
 module _ {A : Type 0} (Is : List Spelled → A → Type 0) where
   -- tokens that more tokens make a tree
-  abbrev pub Begins : List Spelled → Type 0
-  Begins ts = (more : List Spelled) × (a : A) × Is (ts ++ more) a
+  abbrev pub BeginsTree : List Spelled → Type 0
+  BeginsTree ts = (more : List Spelled) × (a : A) × Is (ts ++ more) a
 
   -- no token begins a tree of any kind
   abbrev pub MayBegin : List Spelled → Type 0
-  MayBegin ts = (ts ≡ []) ⊎ Begins ts
+  MayBegin ts = (ts ≡ []) ⊎ BeginsTree ts
 
   -- the first n tokens are the longest front that begins a tree
   pub record IsStretch (tokens : List Spelled) (n : ℕ) : Type 0 where

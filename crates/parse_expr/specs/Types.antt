@@ -1,5 +1,5 @@
 -- The grammar of types: one case for each form, with its weight.
-use Rattle.std.specs.Prelude.{ℕ, suc, ◌≤◌, max, List, [], ◌∷◌, ◌++◌}
+use Rattle.std.specs.Prelude.{◌≡◌, ℕ, suc, ◌≤◌, max, List, [], ◌∷◌, ◌++◌}
 use Rattle.mono_syntax.specs.declared.leaf.Place.{Place}
 use Rattle.mono_syntax.specs.declared.leaf.Word.{Word}
 use Rattle.mono_syntax.specs.Ann.{Ann, ann, dyn, int, bool, str, nil, class, fun}
@@ -36,6 +36,10 @@ mutual
     one_type : (ts : List Spelled) (w : ℕ) (a : Ann) → DerivesType ts w a → DerivesTypeRow ts w (a ∷ [])
     more_types : (p : Place) (ts us : List Spelled) (v w : ℕ) (a : Ann) (xs : List Ann) → DerivesType ts v a → DerivesTypeRow us w xs
         → DerivesTypeRow (ts ++ (tok what.Comma p ∷ us)) (max v w) (a ∷ xs)
+
+-- tokens are at most one type, of whatever weight
+abbrev pub OneType : Type 0
+OneType = (ts : List Spelled) (v w : ℕ) (a b : Ann) → DerivesType ts v a → DerivesType ts w b → a ≡ b
 
 -- a type of a weight that fits in the room
 abbrev pub IsType : ℕ → List Spelled → Ann → Type 0

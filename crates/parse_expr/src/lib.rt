@@ -4,15 +4,15 @@
 //! grammar has one for it.
 #![tactic(auto)]
 
-mod machine;
+pub mod laws;
+pub mod machine;
 mod parsing;
+mod precedence;
 mod reader;
 mod types;
 
-pub use machine::{Frame, Held, Link, Mode, Next, TypeFrame, TypeMode, TypeNext, Weighed};
-pub use parsing::{parse_expr, parse_type};
-pub use reader::{finish, step};
-pub use types::{type_finish, type_step};
+pub use parsing::{parse_expr, parse_type, refused};
+pub use precedence::{op_left, op_right, op_whole};
 
 #[cfg(test)]
 mod tests;

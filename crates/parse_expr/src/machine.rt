@@ -1,3 +1,11 @@
+//! The machine that reads a type or an expression one token at a time. `parse_type` and `parse_expr` drive it over a list of
+//! tokens; `parse_script` drives it inside its own machine, which reads the whole script in one pass, so that an expression's
+//! end is found where its reading stops.
+//!
+//! A reading begins at `Mode::Want` (`TypeMode::Want`) with no frames. `step` (`type_step`) takes it over a token, or stops with
+//! the tree that was read, or with none; `finish` (`type_finish`) tells whether what was read so far is a tree.
+pub use crate::reader::{finish, step};
+pub use crate::types::{type_finish, type_step};
 use mono_list::Stack;
 use mono_syntax::{Ann, Expr, Op, Place, Word};
 use sqlite_items::Items;
@@ -48,7 +56,7 @@ pub enum TypeNext {
 pub enum Link {
     Or,
     And,
-    Sign(Op),
+    Operator(Op),
 }
 
 /// What stands to the left of a part of an expression that is still read.

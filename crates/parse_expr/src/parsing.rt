@@ -1,7 +1,11 @@
-ghost use Rattle.std.specs.Prelude.{◌≡◌, ◌<◌, ◌≤◌, length, chars, IfOk, IfErr, Some, None};
+ghost use Rattle.std.specs.Prelude.{◌≡◌, ℕ, ◌<◌, ◌≤◌, length, chars, IfOk, IfErr, MatchResult, Some, None};
+ghost use Rattle.mono_syntax.specs.Ann.{Ann as AnnTree};
+ghost use Rattle.mono_syntax.specs.Expr.{Expr as ExprTree};
+ghost use Rattle.mono_syntax.specs.declared.refusal.LoadFault.TheVariants.{Memory};
+ghost use Rattle.mono_syntax.specs.Limits.{greatest_weight};
 ghost use Rattle.py_lexer.specs.Lexes.{Lexes};
 ghost use Rattle.parse_expr.specs.Types.{IsType};
-ghost use Rattle.parse_expr.specs.TypeReading.{type_tree};
+ghost use Rattle.parse_expr.specs.computed.TypeReading.{type_tree};
 ghost use Rattle.parse_expr.specs.Grammar.{IsExpr};
 ghost use Rattle.parse_expr.specs.Stretches.{IsRead, IsReadFault};
 
@@ -15,7 +19,7 @@ use spelled_tokens::spell;
 use std::alloc::Global;
 
 /// The refusal of a token that can't go on.
-fn refused(place: Place) -> LoadFault
+pub fn refused(place: Place) -> LoadFault
     ensures { result ≡ LoadFault.Refused (record { place = place; reason = Reason.Syntax }) }
 {
     LoadFault::Refused(Refusal {
@@ -46,19 +50,17 @@ fn type_answer(found: Option<Weighed>, at: usize, place: Place) -> Result<(Ann, 
     }
 }
 
-/// The expression that begins at a position, and the position behind it. Each token is spelled once, and the depth of the
-/// expression costs no stack.
-pub fn parse_expr(
+/// Reads tokens from a position on until one stops the reading.
+fn read_expr(
     alloc: Global,
     tokens: &[Token],
     text: &str,
     from: usize,
     room: u32,
 ) -> Result<(Expr, usize), LoadFault>
-    requires length { length text.now ≤ 1048576 }
     requires lexed { Lexes (chars text.now) tokens.now }
     requires from { from < length tokens.now }
-    requires room { room ≤ 100 }
+    requires room { room ≤ greatest_weight }
     ensures accepted { IfOk result (λ r. IsRead (IsExpr room) text.now tokens.now from r.0 r.1) }
     ensures refused { IfErr result (IsReadFault (IsExpr room) text.now tokens.now from) }
 {
@@ -74,18 +76,39 @@ pub fn parse_expr(
     }
 }
 
-/// The type that begins at a position, and the position behind it.
-pub fn parse_type(
+/// The expression that begins at a position, and the position behind it. Each token is spelled once, and the depth of the
+/// expression costs no stack.
+pub fn parse_expr(
+    alloc: Global,
+    tokens: &[Token],
+    text: &str,
+    from: usize,
+    room: u32,
+) -> Result<(Expr, usize), LoadFault>
+    requires lexed { Lexes (chars text.now) tokens.now }
+    requires from { from < length tokens.now }
+    requires room { room ≤ greatest_weight }
+    ensures accepted { IfOk result (λ r. IsRead (IsExpr room) text.now tokens.now from r.0 r.1) }
+    ensures refused { IfErr result (IsReadFault (IsExpr room) text.now tokens.now from) }
+
+    // A stretch that is a tree is accepted with it, unless memory runs out.
+    ensures complete { (tree : ExprTree) (end : ℕ) → IsRead (IsExpr room) text.now tokens.now from tree end →
+        MatchResult result (λ r. (r.0 ≡ tree) × (r.1 ≡ end)) (λ fault. fault ≡ Memory) }
+{
+    read_expr(alloc, tokens, text, from, room)
+}
+
+/// Reads tokens from a position on until one stops the reading.
+fn read_type(
     alloc: Global,
     tokens: &[Token],
     text: &str,
     from: usize,
     room: u32,
 ) -> Result<(Ann, usize), LoadFault>
-    requires length { length text.now ≤ 1048576 }
     requires lexed { Lexes (chars text.now) tokens.now }
     requires from { from < length tokens.now }
-    requires room { room ≤ 100 }
+    requires room { room ≤ greatest_weight }
     ensures accepted { IfOk result (λ r. IsRead (IsType room) text.now tokens.now from r.0 r.1) }
     ensures refused { IfErr result (IsReadFault (IsType room) text.now tokens.now from) }
 {
@@ -99,4 +122,25 @@ pub fn parse_type(
         }
         at += 1;
     }
+}
+
+/// The type that begins at a position, and the position behind it.
+pub fn parse_type(
+    alloc: Global,
+    tokens: &[Token],
+    text: &str,
+    from: usize,
+    room: u32,
+) -> Result<(Ann, usize), LoadFault>
+    requires lexed { Lexes (chars text.now) tokens.now }
+    requires from { from < length tokens.now }
+    requires room { room ≤ greatest_weight }
+    ensures accepted { IfOk result (λ r. IsRead (IsType room) text.now tokens.now from r.0 r.1) }
+    ensures refused { IfErr result (IsReadFault (IsType room) text.now tokens.now from) }
+
+    // A stretch that is a tree is accepted with it, unless memory runs out.
+    ensures complete { (tree : AnnTree) (end : ℕ) → IsRead (IsType room) text.now tokens.now from tree end →
+        MatchResult result (λ r. (r.0 ≡ tree) × (r.1 ≡ end)) (λ fault. fault ≡ Memory) }
+{
+    read_type(alloc, tokens, text, from, room)
 }

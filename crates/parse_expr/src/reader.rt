@@ -1,10 +1,12 @@
 ghost use Rattle.std.specs.Prelude.{◌≡◌, [], ◌∷◌, ◌+◌, ◌<◌, ◌≤◌, max, length, IfOk, Some, None, nat_lt};
+ghost use Rattle.mono_syntax.specs.Limits.{greatest_weight};
 ghost use Rattle.mono_syntax.specs.Expr as expr;
 ghost use Rattle.mono_syntax.specs.ExprView.{exprs, expr_of};
-ghost use Rattle.parse_expr.specs.TypeReading.{type_finish, type_step, IsLightType};
-ghost use Rattle.parse_expr.specs.Reading.{link_left, link_whole, link_right, link_tree, level, hole_of, hole, join, weigh, settle, held, if_some, is_minus, close_empty, begin, join_link, close_at, close, comma_at, comma, whole_at, go_on, field_at, cast_open, cast_comma, cast_type, is_comma, cast_closed, cast_next, inner_room, join_open, join_name, join_close, step, finish, IsLight, IsLightHeld, IsLightMode, next_of};
+ghost use Rattle.parse_expr.specs.computed.TypeReading.{type_finish, type_step, IsLightType};
+ghost use Rattle.parse_expr.specs.computed.Reading.{link_left, link_whole, link_right, link_tree, level, hole_of, hole, join, weigh, settle, held, if_some, is_minus, close_empty, begin, join_link, close_at, close, comma_at, comma, whole_at, go_on, field_at, cast_open, cast_comma, cast_type, is_comma, cast_closed, cast_next, inner_room, join_open, join_name, join_close, step, finish, IsLight, IsLightHeld, IsLightMode, next_of};
 
 use crate::machine::{Frame, Held, Link, Mode, Next, TypeMode, TypeNext, Weighed};
+use crate::precedence::{op_left, op_right, op_whole};
 use crate::types::{greater, type_step};
 use mono_list::Stack;
 use mono_syntax::{Ann, Expr, ExprKind, Op, Place, Word};
@@ -19,8 +21,7 @@ fn link_left(link: Link) -> u32
     match link {
         Link::Or => 1,
         Link::And => 2,
-        Link::Sign(Op::Mul | Op::Div | Op::Mod) => 6,
-        Link::Sign(_) => 5,
+        Link::Operator(op) => op_left(op),
     }
 }
 
@@ -31,9 +32,7 @@ fn link_whole(link: Link) -> u32
     match link {
         Link::Or => 1,
         Link::And => 2,
-        Link::Sign(Op::Mul | Op::Div | Op::Mod) => 6,
-        Link::Sign(Op::Add | Op::Sub) => 5,
-        Link::Sign(_) => 4,
+        Link::Operator(op) => op_whole(op),
     }
 }
 
@@ -44,9 +43,7 @@ fn link_right(link: Link) -> u32
     match link {
         Link::Or => 2,
         Link::And => 3,
-        Link::Sign(Op::Mul | Op::Div | Op::Mod) => 7,
-        Link::Sign(Op::Add | Op::Sub) => 6,
-        Link::Sign(_) => 5,
+        Link::Operator(op) => op_right(op),
     }
 }
 
@@ -102,7 +99,7 @@ fn link_tree(
     let kind = match link {
         Link::Or => ExprKind::Or(left, right),
         Link::And => ExprKind::And(left, right),
-        Link::Sign(op) => ExprKind::Binary(op, place, left, right),
+        Link::Operator(op) => ExprKind::Binary(op, place, left, right),
     };
     Ok(Expr { kind })
 }
@@ -152,7 +149,7 @@ fn join(alloc: Global, frame: Frame, tree: Expr) -> Result<Expr, AllocError>
 
 /// The weight of a frame with its part.
 fn weigh(frame: &Frame, weight: u32) -> u32
-    requires { weigh frame.now weight ≤ 100 }
+    requires { weigh frame.now weight ≤ greatest_weight }
     ensures { result ≡ weigh frame.now weight }
 {
     match frame {
@@ -262,7 +259,7 @@ fn close_empty(alloc: Global, mut stack: Stack<Frame>) -> Result<Next, AllocErro
 
 /// A `not` where a part is wanted.
 fn begin_not(room: usize, stack: Stack<Frame>, place: Place) -> Result<Next, AllocError>
-    requires { length stack ≤ 100 }
+    requires { length stack ≤ greatest_weight }
     ensures { IfOk result (λ n. n ≡ next_of (begin room stack place What.Not) None) }
 {
     if stack.len() + 1 >= room {
@@ -277,8 +274,8 @@ fn begin_not(room: usize, stack: Stack<Frame>, place: Place) -> Result<Next, All
 
 /// An operator where a part is wanted: `-` begins one.
 fn begin_sign(room: usize, stack: Stack<Frame>, place: Place, op: Op) -> Result<Next, AllocError>
-    requires { length stack ≤ 100 }
-    ensures { IfOk result (λ n. n ≡ next_of (begin room stack place (What.Sign op)) None) }
+    requires { length stack ≤ greatest_weight }
+    ensures { IfOk result (λ n. n ≡ next_of (begin room stack place (What.Operator op)) None) }
 {
     if stack.len() + 1 < room && matches!(op, Op::Sub) {
         want(stack, Frame::Neg(place))
@@ -289,7 +286,7 @@ fn begin_sign(room: usize, stack: Stack<Frame>, place: Place, op: Op) -> Result<
 
 /// A bracket where a part is wanted.
 fn begin_bracket(room: usize, stack: Stack<Frame>) -> Result<Next, AllocError>
-    requires { length stack ≤ 100 }
+    requires { length stack ≤ greatest_weight }
     ensures { IfOk result (λ n. n ≡ next_of (if_some (nat_lt (length stack + 1) room) (Mode.Want (Frame.Bracket ∷ stack))) None) }
 {
     if stack.len() + 1 >= room {
@@ -299,7 +296,7 @@ fn begin_bracket(room: usize, stack: Stack<Frame>) -> Result<Next, AllocError>
 }
 
 fn begin_cast(room: usize, stack: Stack<Frame>, place: Place) -> Next
-    requires { length stack ≤ 100 }
+    requires { length stack ≤ greatest_weight }
     ensures { result ≡ next_of (begin room stack place What.Cast) None }
 {
     if stack.len() + 1 < room {
@@ -327,7 +324,7 @@ fn begin(
     place: Place,
     what: What,
 ) -> Result<Next, AllocError>
-    requires { IsLight stack × (length stack ≤ 100) }
+    requires { IsLight stack × (length stack ≤ greatest_weight) }
     ensures { IfOk result (λ n. n ≡ next_of (begin room stack place what) None) }
 {
     match what {
@@ -337,7 +334,7 @@ fn begin(
         What::Bool(truth) => Ok(leaf(room, stack, ExprKind::Bool(place, truth))),
         What::Nil => Ok(leaf(room, stack, ExprKind::Nil(place))),
         What::Not => begin_not(room, stack, place),
-        What::Sign(op) => begin_sign(room, stack, place, op),
+        What::Operator(op) => begin_sign(room, stack, place, op),
         What::Open => begin_bracket(room, stack),
         What::Close => close_empty(alloc, stack),
         What::Cast => Ok(begin_cast(room, stack, place)),
@@ -398,7 +395,7 @@ fn close_at(
     tree: Expr,
     weight: u32,
 ) -> Result<Next, AllocError>
-    requires { IsLight stack × (weight ≤ 100) }
+    requires { IsLight stack × (weight ≤ greatest_weight) }
     ensures { IfOk result (λ n. n ≡ next_of (close_at stack tree weight) (whole_at stack tree)) }
 {
     match stack.pop() {
@@ -501,7 +498,7 @@ fn go_on(
         What::Open => open(alloc, room, held, place),
         What::Or => join_link(alloc, room, Link::Or, place, held),
         What::And => join_link(alloc, room, Link::And, place, held),
-        What::Sign(op) => join_link(alloc, room, Link::Sign(op), place, held),
+        What::Operator(op) => join_link(alloc, room, Link::Operator(op), place, held),
         What::Close => close(alloc, held),
         What::Comma => comma(alloc, held),
         _ => stop(alloc, held),
@@ -510,7 +507,7 @@ fn go_on(
 
 /// The name behind a `.`.
 fn field(alloc: Global, held: Held, place: Place, what: What) -> Result<Next, AllocError>
-    requires { held.weight < 100 }
+    requires { held.weight < greatest_weight }
     ensures { IfOk result (λ n. n ≡ next_of (field_at held.stack held.tree held.weight place what) None) }
 {
     match what {

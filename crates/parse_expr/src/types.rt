@@ -1,6 +1,7 @@
 ghost use Rattle.std.specs.Prelude.{◌≡◌, [], ◌∷◌, ◌+◌, ◌<◌, ◌≤◌, max, length, IfOk, Some, None, nat_lt};
+ghost use Rattle.mono_syntax.specs.Limits.{greatest_weight};
 ghost use Rattle.mono_syntax.specs.AnnView.{form_of};
-ghost use Rattle.parse_expr.specs.TypeReading.{type_if, type_leaf, type_mark, type_begin, type_outer, type_inner, type_first_mark, type_first, type_between, type_comma, type_close, type_behind, type_step, type_whole, type_finish, type_next, AreLightTypes, IsLightType};
+ghost use Rattle.parse_expr.specs.computed.TypeReading.{type_if, type_leaf, type_mark, type_begin, type_outer, type_inner, type_first_mark, type_first, type_between, type_comma, type_close, type_behind, type_step, type_whole, type_finish, type_next, AreLightTypes, IsLightType};
 
 use crate::machine::{TypeFrame, TypeMode, TypeNext, Weighed};
 use mono_list::Stack;
@@ -187,7 +188,7 @@ fn close(
     ann: Ann,
     weight: u32,
 ) -> Result<TypeNext, AllocError>
-    requires { AreLightTypes stack × (weight ≤ 100) }
+    requires { AreLightTypes stack × (weight ≤ greatest_weight) }
     ensures { IfOk result (λ n. n ≡ type_next (type_close stack ann weight) (type_whole stack ann weight)) }
 {
     match stack.pop() {
@@ -213,7 +214,7 @@ fn behind(
     weight: u32,
     what: What,
 ) -> Result<TypeNext, AllocError>
-    requires { AreLightTypes stack × (weight ≤ 100) }
+    requires { AreLightTypes stack × (weight ≤ greatest_weight) }
     ensures { IfOk result (λ n. n ≡ type_next (type_behind stack ann weight what) (type_whole stack ann weight)) }
 {
     match what {

@@ -21,10 +21,10 @@ use Rattle.parse_expr.specs.declared.machine.Mode.{Mode}
 use Rattle.parse_expr.specs.declared.machine.Mode.TheVariants as mode
 use Rattle.parse_expr.specs.declared.machine.TypeMode.{TypeMode}
 use Rattle.parse_expr.specs.declared.machine.TypeMode.TheVariants as type_mode
-use Rattle.parse_expr.specs.Goes.{Goes}
+use Rattle.parse_expr.specs.computed.Goes.{Goes}
 use Rattle.parse_expr.specs.Grammar.{DerivesArgs, no_args, last_arg, more_args, IsExpr}
-use Rattle.parse_expr.specs.Reading.{step, finish, settle, whole_at, close_at, comma_at, go_on}
-use Rattle.parse_expr.specs.TypeReading.{type_step}
+use Rattle.parse_expr.specs.computed.Reading.{step, finish, settle, whole_at, close_at, comma_at, go_on}
+use Rattle.parse_expr.specs.computed.TypeReading.{type_step}
 use Rattle.parse_expr.specs.Types.{word}
 use Rattle.parse_expr.proofs.Goes.{goes_nil, goes_cons}
 use Rattle.parse_script.specs.declared.stage.Around.{Around}
@@ -35,9 +35,9 @@ use Rattle.parse_script.specs.declared.stage.Stage.{Stage}
 use Rattle.parse_script.specs.declared.stage.Stage.TheVariants as stage
 use Rattle.parse_script.specs.declared.stage.Use.{Use}
 use Rattle.parse_script.specs.declared.stage.Use.TheVariants as for_
-use Rattle.parse_script.specs.Reading.{added, added_stage, behind_used, behind_found, inside_next, inside_step, listed_stage, behind_argument, found_argument, argument_next, argument_step, listing_at, listing_step}
-use Rattle.parse_script.specs.Endings.{ending_of}
-use Rattle.parse_script.specs.Statements.{heaviest}
+use Rattle.parse_script.specs.computed.Reading.{added, added_stage, behind_used, behind_found, inside_next, inside_step, listed_stage, behind_argument, found_argument, argument_next, argument_step, listing_at, listing_step}
+use Rattle.parse_script.specs.computed.Endings.{ending_of}
+use Rattle.mono_syntax.specs.Limits.{greatest_weight}
 use Rattle.parse_script.proofs.Rest.{Rest, Next, NextName, Ends, NextExpr, NextType, RestUse, RestInside, RestListed, RestListing, RestArgument}
 use Rattle.parse_script.proofs.Steps.{none_some, head_is, tail_is}
 use Rattle.parse_expr.proofs.Readings.{expr_goes}
@@ -68,7 +68,7 @@ unname P t ts n =
 -- an expression goes on, or ends here
 pub record ExprOn (m : Mode) (P : Expr → List Spelled → Type 0) (t : Spelled) (ts : List Spelled) : Type 0 where
   pub next : Mode
-  pub step_is : step heaviest m t ≡ Some next
+  pub step_is : step greatest_weight m t ≡ Some next
   pub rest : NextExpr next P ts
 
 pub record ExprEnd (m : Mode) (P : Expr → List Spelled → Type 0) (ts : List Spelled) : Type 0 where
@@ -78,17 +78,17 @@ pub record ExprEnd (m : Mode) (P : Expr → List Spelled → Type 0) (ts : List 
 
 unexpr_at : (m : Mode) (P : Expr → List Spelled → Type 0) (t : Spelled) (ts part more : List Spelled) (e : Expr) → Ends m part e → t ∷ ts ≡ part ++ more → P e more → ExprOn m P t ts ⊎ ExprEnd m P (t ∷ ts)
 unexpr_at m P t ts [] more e x s r =
-    inr (record { tree = e; finish_is = ap finish (goes_nil (step heaviest) x.1) ∙ x.2; rest = subst (λ (l : List Spelled). P e l) (sym s) r })
+    inr (record { tree = e; finish_is = ap finish (goes_nil (step greatest_weight) x.1) ∙ x.2; rest = subst (λ (l : List Spelled). P e l) (sym s) r })
 unexpr_at m P t ts (u ∷ part) more e x s r =
-    let c = goes_cons (step heaviest) x.1 in
-    inl (record { next = c.0; step_is = ap (step heaviest m) (head_is s) ∙ c.1; rest = record { part = part; more = more; tree = e; ends = (x.0, c.2, x.2); split = tail_is s; rest = r } })
+    let c = goes_cons (step greatest_weight) x.1 in
+    inl (record { next = c.0; step_is = ap (step greatest_weight m) (head_is s) ∙ c.1; rest = record { part = part; more = more; tree = e; ends = (x.0, c.2, x.2); split = tail_is s; rest = r } })
 
 pub unexpr : (m : Mode) (P : Expr → List Spelled → Type 0) (t : Spelled) (ts : List Spelled) → NextExpr m P (t ∷ ts) → ExprOn m P t ts ⊎ ExprEnd m P (t ∷ ts)
 unexpr m P t ts n = unexpr_at m P t ts n.part n.more n.tree n.ends n.split n.rest
 
 pub record TypeOn (m : TypeMode) (P : Ann → List Spelled → Type 0) (t : Spelled) (ts : List Spelled) : Type 0 where
   pub next : TypeMode
-  pub step_is : type_step heaviest m t ≡ Some next
+  pub step_is : type_step greatest_weight m t ≡ Some next
   pub rest : NextType next P ts
 
 pub record TypeEnd (m : TypeMode) (P : Ann → List Spelled → Type 0) (ts : List Spelled) : Type 0 where
@@ -97,20 +97,20 @@ pub record TypeEnd (m : TypeMode) (P : Ann → List Spelled → Type 0) (ts : Li
   pub mode_is : m ≡ type_mode.Have [] tree weight
   pub rest : P tree ts
 
-untype_at : (m : TypeMode) (P : Ann → List Spelled → Type 0) (t : Spelled) (ts part more : List Spelled) (a : Ann) (w : ℕ) → Goes (type_step heaviest) m part (type_mode.Have [] a w)
+untype_at : (m : TypeMode) (P : Ann → List Spelled → Type 0) (t : Spelled) (ts part more : List Spelled) (a : Ann) (w : ℕ) → Goes (type_step greatest_weight) m part (type_mode.Have [] a w)
     → t ∷ ts ≡ part ++ more → P a more → TypeOn m P t ts ⊎ TypeEnd m P (t ∷ ts)
-untype_at m P t ts [] more a w g s r = inr (record { tree = a; weight = w; mode_is = goes_nil (type_step heaviest) g; rest = subst (λ (l : List Spelled). P a l) (sym s) r })
+untype_at m P t ts [] more a w g s r = inr (record { tree = a; weight = w; mode_is = goes_nil (type_step greatest_weight) g; rest = subst (λ (l : List Spelled). P a l) (sym s) r })
 untype_at m P t ts (u ∷ part) more a w g s r =
-    let c = goes_cons (type_step heaviest) g in
-    inl (record { next = c.0; step_is = ap (type_step heaviest m) (head_is s) ∙ c.1; rest = record { part = part; more = more; tree = a; weight = w; goes = c.2; split = tail_is s; rest = r } })
+    let c = goes_cons (type_step greatest_weight) g in
+    inl (record { next = c.0; step_is = ap (type_step greatest_weight m) (head_is s) ∙ c.1; rest = record { part = part; more = more; tree = a; weight = w; goes = c.2; split = tail_is s; rest = r } })
 
 pub untype : (m : TypeMode) (P : Ann → List Spelled → Type 0) (t : Spelled) (ts : List Spelled) → NextType m P (t ∷ ts) → TypeOn m P t ts ⊎ TypeEnd m P (t ∷ ts)
 untype m P t ts n = untype_at m P t ts n.part n.more n.tree n.weight n.goes n.split n.rest
 
 -- ---- what ends an expression doesn't go on in it
 
-pub mark_stops : (m : Mode) (e : Expr) (t : Spelled) (x : Mark) → finish m ≡ Some e → t.what ≡ what.Mark x → step heaviest m t ≡ None
-mark_stops (mode.Have h) e t x f i = ap (go_on heaviest h.stack h.tree h.weight t.place) i
+pub mark_stops : (m : Mode) (e : Expr) (t : Spelled) (x : Mark) → finish m ≡ Some e → t.what ≡ what.Mark x → step greatest_weight m t ≡ None
+mark_stops (mode.Have h) e t x f i = ap (go_on greatest_weight h.stack h.tree h.weight t.place) i
 mark_stops (mode.Want k) e t x f i = none_some _ f
 mark_stops (mode.Dotted h) e t x f i = none_some _ f
 mark_stops (mode.CastWord p k) e t x f i = none_some _ f
@@ -123,10 +123,10 @@ whole_open : (k : List Frame) (e x : Expr) → whole_at k e ≡ Some x → k ≡
 whole_open [] e x h = refl
 whole_open (f ∷ k) e x h = none_some _ h
 
-close_stops : (m : Mode) (e : Expr) (t : Spelled) → finish m ≡ Some e → t.what ≡ what.Close → step heaviest m t ≡ None
+close_stops : (m : Mode) (e : Expr) (t : Spelled) → finish m ≡ Some e → t.what ≡ what.Close → step greatest_weight m t ≡ None
 close_stops (mode.Have h) e t f i =
     let s = settle 1 h.stack h.tree h.weight in
-    ap (go_on heaviest h.stack h.tree h.weight t.place) i ∙ ap (λ (k : List Frame). close_at k s.tree s.weight) (whole_open s.stack s.tree e f)
+    ap (go_on greatest_weight h.stack h.tree h.weight t.place) i ∙ ap (λ (k : List Frame). close_at k s.tree s.weight) (whole_open s.stack s.tree e f)
 close_stops (mode.Want k) e t f i = none_some _ f
 close_stops (mode.Dotted h) e t f i = none_some _ f
 close_stops (mode.CastWord p k) e t f i = none_some _ f
@@ -135,10 +135,10 @@ close_stops (mode.JoinWord p k) e t f i = none_some _ f
 close_stops (mode.JoinOpen p k) e t f i = none_some _ f
 close_stops (mode.JoinName p y k) e t f i = none_some _ f
 
-comma_stops : (m : Mode) (e : Expr) (t : Spelled) → finish m ≡ Some e → t.what ≡ what.Comma → step heaviest m t ≡ None
+comma_stops : (m : Mode) (e : Expr) (t : Spelled) → finish m ≡ Some e → t.what ≡ what.Comma → step greatest_weight m t ≡ None
 comma_stops (mode.Have h) e t f i =
     let s = settle 1 h.stack h.tree h.weight in
-    ap (go_on heaviest h.stack h.tree h.weight t.place) i ∙ ap (λ (k : List Frame). comma_at k s.tree s.weight) (whole_open s.stack s.tree e f)
+    ap (go_on greatest_weight h.stack h.tree h.weight t.place) i ∙ ap (λ (k : List Frame). comma_at k s.tree s.weight) (whole_open s.stack s.tree e f)
 comma_stops (mode.Want k) e t f i = none_some _ f
 comma_stops (mode.Dotted h) e t f i = none_some _ f
 comma_stops (mode.CastWord p k) e t f i = none_some _ f
@@ -184,7 +184,7 @@ listed_on a (listed.Start x p) (e ∷ es) ts all r = record { next = stage.Line 
 listed_on a (listed.Start x p) [] ts all r = absurd r
 
 behind_on : (a : Around) (l : Listed) (es : List Expr) (m : Mode) (e : Expr) (t : Spelled) (ts : List Spelled) (all : List Item) → finish m ≡ Some e → RestArgument a l es (t ∷ ts) all
-    → (step heaviest m t ≡ None) × On (behind_argument a l es (ending_of t.what)) ts all
+    → (step greatest_weight m t ≡ None) × On (behind_argument a l es (ending_of t.what)) ts all
 behind_on a l es m e t ts all f (inl r) =
     let n = unnext what.Comma _ t ts r in
     (comma_stops m e t f n.0, record { next = stage.Listing a l es; step_is = ap (λ w. behind_argument a l es (ending_of w)) n.0; rest = n.1 })
@@ -203,14 +203,14 @@ argument_on a l es m t ts all r =
     ]
 
 -- an expression of the grammar, and what is behind it
-pub grammar_expr : (P : Expr → List Spelled → Type 0) (us vs ts : List Spelled) (e : Expr) → IsExpr heaviest us e → ts ≡ us ++ vs → P e vs → NextExpr (mode.Want []) P ts
-grammar_expr P us vs ts e h s r = let g = expr_goes heaviest us e h in record { part = us; more = vs; tree = e; ends = g; split = s; rest = r }
+pub grammar_expr : (P : Expr → List Spelled → Type 0) (us vs ts : List Spelled) (e : Expr) → IsExpr greatest_weight us e → ts ≡ us ++ vs → P e vs → NextExpr (mode.Want []) P ts
+grammar_expr P us vs ts e h s r = let g = expr_goes greatest_weight us e h in record { part = us; more = vs; tree = e; ends = g; split = s; rest = r }
 
 -- arguments are none, or an argument and what is behind it
 record ArgumentsAre (a : Around) (l : Listed) (es : List Expr) (ts : List Spelled) (all : List Item) : Type 0 where
   which : Next what.Close (λ p us. RestListed a l es us all) ts ⊎ NextExpr (mode.Want []) (λ e us. RestArgument a l (es ++ (e ∷ [])) us all) ts
 
-arguments_are : (a : Around) (l : Listed) (es : List Expr) (ts us vs : List Spelled) (w : ℕ) (fs : List Expr) (p : Place) (all : List Item) → DerivesArgs us w fs → w ≤ heaviest
+arguments_are : (a : Around) (l : Listed) (es : List Expr) (ts us vs : List Spelled) (w : ℕ) (fs : List Expr) (p : Place) (all : List Item) → DerivesArgs us w fs → w ≤ greatest_weight
     → ts ≡ us ++ (tok what.Close p ∷ vs) → RestListed a l (es ++ fs) vs all → ArgumentsAre a l es ts all
 arguments_are a l es ts us vs w fs p all no_args h s r = record { which = inl (record { place = p; more = vs; split = s; rest = subst (λ (ks : List Expr). RestListed a l ks vs all) (append-nil es) r }) }
 arguments_are a l es ts us vs w fs p all (last_arg xs v e d) h s r =

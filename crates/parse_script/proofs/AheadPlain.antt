@@ -19,9 +19,9 @@ use Rattle.parse_expr.specs.declared.machine.Mode.{Mode}
 use Rattle.parse_expr.specs.declared.machine.Mode.TheVariants as mode
 use Rattle.parse_expr.specs.declared.machine.TypeMode.{TypeMode}
 use Rattle.parse_expr.specs.declared.machine.TypeMode.TheVariants as type_mode
-use Rattle.parse_expr.specs.Goes.{Goes}
-use Rattle.parse_expr.specs.Reading.{step, finish, held, go_on, field_at, if_some}
-use Rattle.parse_expr.specs.TypeReading.{type_step, type_finish, type_behind}
+use Rattle.parse_expr.specs.computed.Goes.{Goes}
+use Rattle.parse_expr.specs.computed.Reading.{step, finish, held, go_on, field_at, if_some}
+use Rattle.parse_expr.specs.computed.TypeReading.{type_step, type_finish, type_behind}
 use Rattle.parse_expr.specs.Types.{word}
 use Rattle.parse_expr.proofs.Goes.{goes_nil, goes_cons}
 use Rattle.parse_script.specs.declared.stage.Around.{Around}
@@ -29,9 +29,9 @@ use Rattle.parse_script.specs.declared.stage.Stage.{Stage}
 use Rattle.parse_script.specs.declared.stage.Stage.TheVariants as stage
 use Rattle.parse_script.specs.declared.stage.Use.{Use}
 use Rattle.parse_script.specs.declared.stage.Use.TheVariants as for_
-use Rattle.parse_script.specs.Reading.{added_stage, inside_step, inside, plain_found, plain_next, plain_on, plain_held, plain_at, plain_step, dotted_step, attribute_step, target_at, target_step, named_at, named_step, assigning_at, assigning_step, typed_end, typed_next, typed_step, returning_at, returning_step}
-use Rattle.parse_script.specs.Endings.{ending_of}
-use Rattle.parse_script.specs.Statements.{heaviest}
+use Rattle.parse_script.specs.computed.Reading.{added_stage, inside_step, inside, plain_found, plain_next, plain_on, plain_held, plain_at, plain_step, dotted_step, attribute_step, target_at, target_step, named_at, named_step, assigning_at, assigning_step, typed_end, typed_next, typed_step, returning_at, returning_step}
+use Rattle.parse_script.specs.computed.Endings.{ending_of}
+use Rattle.mono_syntax.specs.Limits.{greatest_weight}
 use Rattle.parse_script.proofs.Ahead.{On, on_at, unnext, unname, ExprEnd, unexpr, untype, mark_stops, inside_on}
 use Rattle.parse_script.proofs.Rest.{Rest, Next, NextName, Ends, RestLine, RestInside, RestValue, RestPlain, RestAttribute, RestAssigning, RestTyped, RestNamed}
 use Rattle.parse_script.proofs.Steps.{none_some, some_is, nil_cons, head_is, tail_is}
@@ -39,7 +39,7 @@ use Rattle.parse_script.proofs.Steps.{none_some, some_is, nil_cons, head_is, tai
 -- a step on
 pub record PlainOn (a : Around) (m : Mode) (t : Spelled) (ts : List Spelled) (all : List Item) : Type 0 where
   pub next : Mode
-  pub step_is : step heaviest m t ≡ Some next
+  pub step_is : step greatest_weight m t ≡ Some next
   pub rest : RestPlain a next ts all
 
 -- a receiver stands here, and its target is behind it
@@ -53,17 +53,17 @@ pub record TargetHere (a : Around) (m : Mode) (t : Spelled) (ts : List Spelled) 
 pub record PlainIs (a : Around) (m : Mode) (t : Spelled) (ts : List Spelled) (all : List Item) : Type 0 where
   pub which : PlainOn a m t ts all ⊎ (ExprEnd m (λ e us. RestLine a (stmt.plain e) us all) (t ∷ ts) ⊎ TargetHere a m t ts all)
 
-target_is : (a : Around) (m : Mode) (t : Spelled) (ts part more : List Spelled) (o : Expr) (w : ℕ) (all : List Item) → Goes (step heaviest) m part (mode.Have (held [] o w)) → w ≤ heaviest
+target_is : (a : Around) (m : Mode) (t : Spelled) (ts part more : List Spelled) (o : Expr) (w : ℕ) (all : List Item) → Goes (step greatest_weight) m part (mode.Have (held [] o w)) → w ≤ greatest_weight
     → t ∷ ts ≡ part ++ more → Next what.Dot (λ p us. NextName (λ x vs. RestValue a o x vs all) us) more → PlainIs a m t ts all
 target_is a m t ts [] more o w all g l s r =
     let n = unnext what.Dot (λ p us. NextName (λ x vs. RestValue a o x vs all) us) t ts (subst (λ (k : List Spelled). Next what.Dot (λ p us. NextName (λ x vs. RestValue a o x vs all) us) k) (sym s) r) in
-    record { which = inr (inr (record { tree = o; weight = w; mode_is = goes_nil (step heaviest) g; dot = n.0; rest = n.1 })) }
+    record { which = inr (inr (record { tree = o; weight = w; mode_is = goes_nil (step greatest_weight) g; dot = n.0; rest = n.1 })) }
 target_is a m t ts (u ∷ part) more o w all g l s r =
-    let c = goes_cons (step heaviest) g in
+    let c = goes_cons (step greatest_weight) g in
     record {
       which = inl (record {
         next = c.0;
-        step_is = ap (step heaviest m) (head_is s) ∙ c.1;
+        step_is = ap (step greatest_weight m) (head_is s) ∙ c.1;
         rest = inr (record { part = part; more = more; tree = o; weight = w; goes = c.2; light = l; split = tail_is s; rest = r });
       });
     }
@@ -81,11 +81,11 @@ no_have : (k g : Held) → mode.Dotted k ≡ mode.Have g → ⊥
 no_have k g e = cc
 
 dotted_part : (h : Held) (part more : List Spelled) (e : Expr) → Ends (mode.Dotted h) part e → ◌≡◌ {A = List Spelled} [] (part ++ more) → ⊥
-dotted_part h [] more e x s = none_some _ (ap finish (goes_nil (step heaviest) x.1) ∙ x.2)
+dotted_part h [] more e x s = none_some _ (ap finish (goes_nil (step greatest_weight) x.1) ∙ x.2)
 dotted_part h (u ∷ part) more e x s = nil_cons _ s
 
-dotted_target : (h g : Held) (part more : List Spelled) → Goes (step heaviest) (mode.Dotted h) part (mode.Have g) → ◌≡◌ {A = List Spelled} [] (part ++ more) → ⊥
-dotted_target h g [] more x s = no_have h g (goes_nil (step heaviest) x)
+dotted_target : (h g : Held) (part more : List Spelled) → Goes (step greatest_weight) (mode.Dotted h) part (mode.Have g) → ◌≡◌ {A = List Spelled} [] (part ++ more) → ⊥
+dotted_target h g [] more x s = no_have h g (goes_nil (step greatest_weight) x)
 dotted_target h g (u ∷ part) more x s = nil_cons _ s
 
 dotted_more : (a : Around) (h : Held) (all : List Item) → RestPlain a (mode.Dotted h) [] all → ⊥
@@ -128,11 +128,11 @@ plain_pass a (mode.Have h) w = held_pass a h.stack h.tree h.weight w
 plain_pass a m w = inr (λ o. refl)
 
 -- where a receiver goes on as an attribute, that weighs as much as an expression may
-dot_next : (o : Expr) (w : ℕ) (t : Spelled) (n : Mode) → t.what ≡ what.Dot → step heaviest (mode.Have (held [] o w)) t ≡ Some n → (w < heaviest) × (n ≡ mode.Dotted (held [] o w))
-dot_next o w t n i e = go (nat_lt (w + 0) heaviest) refl (sym (ap (go_on heaviest [] o w t.place) i) ∙ e)
+dot_next : (o : Expr) (w : ℕ) (t : Spelled) (n : Mode) → t.what ≡ what.Dot → step greatest_weight (mode.Have (held [] o w)) t ≡ Some n → (w < greatest_weight) × (n ≡ mode.Dotted (held [] o w))
+dot_next o w t n i e = go (nat_lt (w + 0) greatest_weight) refl (sym (ap (go_on greatest_weight [] o w t.place) i) ∙ e)
   where
-    go : (b : Bool) → nat_lt (w + 0) heaviest ≡ b → if_some b (mode.Dotted (held [] o w)) ≡ Some n → (w < heaviest) × (n ≡ mode.Dotted (held [] o w))
-    go true q h = let l : w + 0 < heaviest = ltb-true (w + 0) heaviest q in (omega arith, sym (some_is h))
+    go : (b : Bool) → nat_lt (w + 0) greatest_weight ≡ b → if_some b (mode.Dotted (held [] o w)) ≡ Some n → (w < greatest_weight) × (n ≡ mode.Dotted (held [] o w))
+    go true q h = let l : w + 0 < greatest_weight = ltb-true (w + 0) greatest_weight q in (omega arith, sym (some_is h))
     go false q h = none_some _ h
 
 -- a receiver with a `.` behind it, whatever comes then
@@ -205,7 +205,7 @@ stops_plain : (a : Around) (h : Held) (t : Spelled) (x : Mark) → t.what ≡ wh
     → ((k : List Frame) (e : Expr) (w : ℕ) (o : Option Stage) → plain_held a k e w (ending_of (what.Mark x)) o ≡ o) → plain_step a (mode.Have h) t ≡ None
 stops_plain a h t x i f g =
     ap (λ (w : What). plain_held a h.stack h.tree h.weight (ending_of w) (plain_on a (mode.Have h) t)) i ∙ g h.stack h.tree h.weight (plain_on a (mode.Have h) t)
-    ∙ ap (plain_next a (finish (mode.Have h)) (ending_of t.what)) (ap (go_on heaviest h.stack h.tree h.weight t.place) i) ∙ ap (λ (w : What). plain_found a (finish (mode.Have h)) (ending_of w)) i ∙ f (finish (mode.Have h))
+    ∙ ap (plain_next a (finish (mode.Have h)) (ending_of t.what)) (ap (go_on greatest_weight h.stack h.tree h.weight t.place) i) ∙ ap (λ (w : What). plain_found a (finish (mode.Have h)) (ending_of w)) i ∙ f (finish (mode.Have h))
 
 found_equals : (a : Around) (o : Option Expr) → plain_found a o (ending_of (what.Mark mark.Equals)) ≡ None
 found_equals a None = refl
@@ -230,13 +230,13 @@ target_pass a o x w = inr (λ s. refl)
 pub target_ahead : (a : Around) (o : Expr) (w : ℕ) (x : Word) (t : Spelled) (ts : List Spelled) (all : List Item) → RestAttribute a o w x (t ∷ ts) all → On (target_step a o w x t) ts all
 target_ahead a o w x t ts all (inl r) =
     let n = unnext (what.Mark mark.Equals) _ t ts r in
-    record { next = inside a (for_.Write o x); step_is = ap (λ (v : What). target_at a o x (ending_of v) (attribute_step (nat_lt w heaviest) a o w x t)) n.0; rest = n.1 }
+    record { next = inside a (for_.Write o x); step_is = ap (λ (v : What). target_at a o x (ending_of v) (attribute_step (nat_lt w greatest_weight) a o w x t)) n.0; rest = n.1 }
 target_ahead a o w x t ts all (inr r) =
     let p = plain_ahead a (mode.Have (held [] (expr.read o x) (suc w))) t ts all r.1 in
-    let q : attribute_step (nat_lt w heaviest) a o w x t ≡ plain_step a (mode.Have (held [] (expr.read o x) (suc w))) t = ap (λ (b : Bool). attribute_step b a o w x t) (lt-ltb w heaviest r.0) in
+    let q : attribute_step (nat_lt w greatest_weight) a o w x t ≡ plain_step a (mode.Have (held [] (expr.read o x) (suc w))) t = ap (λ (b : Bool). attribute_step b a o w x t) (lt-ltb w greatest_weight r.0) in
     elim (target_pass a o x t.what) [
       | inl i ↦ none_some _ (sym (stops_plain a (held [] (expr.read o x) (suc w)) t mark.Equals i (found_equals a) (held_equals a)) ∙ p.step_is)
-      | inr i ↦ on_at _ _ ts all (i (attribute_step (nat_lt w heaviest) a o w x t) ∙ q) p
+      | inr i ↦ on_at _ _ ts all (i (attribute_step (nat_lt w greatest_weight) a o w x t) ∙ q) p
     ]
 
 record NamedPass (a : Around) (x : Word) (w : What) : Type 0 where
@@ -271,7 +271,7 @@ typed_ahead a x m t ts all r =
       | inl y ↦ record { next = stage.Typed a x y.next; step_is = ap (typed_next a x (type_finish m) (ending_of t.what)) y.step_is; rest = y.rest }
       | inr y ↦ (
           let n = unnext (what.Mark mark.Equals) _ t ts y.rest in
-          let stops : type_step heaviest (type_mode.Have [] y.tree y.weight) t ≡ None = ap (type_behind [] y.tree y.weight) n.0 in
+          let stops : type_step greatest_weight (type_mode.Have [] y.tree y.weight) t ≡ None = ap (type_behind [] y.tree y.weight) n.0 in
           record {
             next = inside a (for_.Assign x (Some y.tree));
             step_is = ap (λ (k : TypeMode). typed_step a x k t) y.mode_is ∙ ap (typed_next a x (Some (record { ann = y.tree; weight = y.weight })) (ending_of t.what)) stops

@@ -25,7 +25,7 @@ use Rattle.spelled_tokens.specs.SpelledTokens.{tok, sign}
 use Rattle.parse_expr.specs.declared.machine.Held.{Held}
 use Rattle.parse_expr.specs.declared.machine.Mode.{Mode}
 use Rattle.parse_expr.specs.declared.machine.Mode.TheVariants as mode
-use Rattle.parse_expr.specs.Reading.{step, held}
+use Rattle.parse_expr.specs.computed.Reading.{step, held}
 use Rattle.parse_expr.specs.Types.{word}
 use Rattle.parse_script.specs.declared.stage.Around.{Around}
 use Rattle.parse_script.specs.declared.stage.ClassStage.TheVariants as class_stage
@@ -42,10 +42,11 @@ use Rattle.parse_script.specs.declared.stage.Stage.TheVariants as stage
 use Rattle.parse_script.specs.declared.stage.Use.TheVariants as for_
 use Rattle.parse_script.specs.Definitions.{DerivesDef}
 use Rattle.parse_script.specs.Definitions as defs
-use Rattle.parse_script.specs.Endings.{ending_of}
-use Rattle.parse_script.specs.Reading.{around, top, is_def, floor_depth, depth, added_to, added, added_stage, func_def, left, stage_if, inside, plain_on, start_mark, start_at, start_step, behind_at, behind_step}
+use Rattle.parse_script.specs.computed.Endings.{ending_of}
+use Rattle.parse_script.specs.computed.Reading.{around, top, is_def, floor_depth, depth, added_to, added, added_stage, func_def, left, stage_if, inside, plain_on, start_mark, start_at, start_step, behind_at, behind_step}
 use Rattle.parse_script.specs.Statements as s
-use Rattle.parse_script.specs.Statements.{heaviest, deepest, branch, DerivesStmt, DerivesTail, DerivesBlock, DerivesStmts, indented}
+use Rattle.mono_syntax.specs.Limits.{greatest_weight, most_blocks}
+use Rattle.parse_script.specs.Statements.{branch, DerivesStmt, DerivesTail, DerivesBlock, DerivesStmts, indented}
 use Rattle.parse_script.proofs.Ahead.{On, on_at, grammar_expr}
 use Rattle.parse_script.proofs.AheadPlain.{PlainIs, plain_is, plain_on_ahead}
 use Rattle.parse_script.proofs.BackStart.{opens, enters, parts}
@@ -130,7 +131,7 @@ leaves_def before h ss vs all n r =
 word_no_plain : (a : Around) (t : Spelled) (x : Mark) (ts : List Spelled) (all : List Item) (B : Type 0) → t.what ≡ what.Mark x → PlainIs a (mode.Want []) t ts all → B
 word_no_plain a t x ts all B i p =
     elim p.which [
-      | inl y ↦ none_some B (sym (ap (λ (w : What). step heaviest (mode.Want []) (tok w t.place)) i) ∙ y.step_is)
+      | inl y ↦ none_some B (sym (ap (λ (w : What). step greatest_weight (mode.Want []) (tok w t.place)) i) ∙ y.step_is)
       | inr z ↦ elim z [ inl y ↦ none_some B y.finish_is | inr y ↦ absurd (no y.mode_is) ]
     ]
   where
@@ -141,7 +142,7 @@ word_no_plain a t x ts all B i p =
 name_plain : (a : Around) (t : Spelled) (x : List ℕ) (ts : List Spelled) (all : List Item) → t.what ≡ what.Name x → PlainIs a (mode.Want []) t ts all → RestPlain a (mode.Have (held [] (expr.local (word x t.place)) 1)) ts all
 name_plain a t x ts all i p =
     elim p.which [
-      | inl y ↦ subst (λ (m : Mode). RestPlain a m ts all) (sym (some_is (sym (ap (λ (w : What). step heaviest (mode.Want []) (tok w t.place)) i ∙ named_goes (word x t.place)) ∙ y.step_is))) y.rest
+      | inl y ↦ subst (λ (m : Mode). RestPlain a m ts all) (sym (some_is (sym (ap (λ (w : What). step greatest_weight (mode.Want []) (tok w t.place)) i ∙ named_goes (word x t.place)) ∙ y.step_is))) y.rest
       | inr z ↦ elim z [ inl y ↦ none_some _ y.finish_is | inr y ↦ absurd (no y.mode_is) ]
     ]
   where
@@ -213,7 +214,7 @@ statement_on a d us vs ts t x all n (s.assign e p q i y ws z k) h r =
       });
     })
 statement_on a d us vs ts t x all n (s.declare e p q i j y xs b ws z k l) h r =
-    let g = type_goes heaviest xs b k in
+    let g = type_goes greatest_weight xs b k in
     on_first a t (tok (what.Name y) p) ts (sign mark.Colon q ∷ ((xs ++ (sign mark.Equals i ∷ (ws ++ (sign mark.Newline j ∷ [])))) ++ vs)) all h
     (record {
       next = stage.Named a (word y p);
@@ -247,7 +248,7 @@ statement_on a d us vs ts t x all n (s.write e p q i j y xs w o ws z k l m) h r 
       more = (tok what.Dot p ∷ tok (what.Name y) q ∷ value) ++ vs;
       tree = o;
       weight = w;
-      goes = postfix_goes heaviest xs w o k l;
+      goes = postfix_goes greatest_weight xs w o k l;
       light = l;
       split = h ∙ append_assoc xs (tok what.Dot p ∷ tok (what.Name y) q ∷ value) vs;
       rest = record {
@@ -310,7 +311,7 @@ statement_on a d us vs ts t x all n (s.if_any e p q ws y xs ss zs bs el i j k l)
     on_first a t (sign mark.If p) ts ((ws ++ (sign mark.Colon q ∷ tail)) ++ vs) all h
     (record {
       next = inside a (for_.Branch []);
-      step_is = ap (λ b. stage_if b (inside a (for_.Branch []))) (lt-ltb (depth a) deepest (omega (arith, n, i)));
+      step_is = ap (λ b. stage_if b (inside a (for_.Branch []))) (lt-ltb (depth a) most_blocks (omega (arith, n, i)));
       rest = grammar_expr (λ f g. RestUse a (for_.Branch []) f g all) ws (sign mark.Colon q ∷ (tail ++ vs)) ((ws ++ (sign mark.Colon q ∷ tail)) ++ vs) y j (append_assoc ws (sign mark.Colon q ∷ tail) vs)
           (record {
             place = q;
@@ -326,7 +327,7 @@ statement_on a d us vs ts t x all n (s.while e p q ws y xs ss i j k) h r =
     on_first a t (sign mark.While p) ts ((ws ++ (sign mark.Colon q ∷ xs)) ++ vs) all h
     (record {
       next = inside a for_.While;
-      step_is = ap (λ b. stage_if b (inside a for_.While)) (lt-ltb (depth a) deepest (omega (arith, n, i)));
+      step_is = ap (λ b. stage_if b (inside a for_.While)) (lt-ltb (depth a) most_blocks (omega (arith, n, i)));
       rest = grammar_expr (λ f g. RestUse a for_.While f g all) ws (sign mark.Colon q ∷ (xs ++ vs)) ((ws ++ (sign mark.Colon q ∷ xs)) ++ vs) y j (append_assoc ws (sign mark.Colon q ∷ xs) vs)
           (record {
             place = q;

@@ -34,9 +34,10 @@ use Rattle.parse_script.specs.declared.stage.Stage.{Stage}
 use Rattle.parse_script.specs.declared.stage.Stage.TheVariants as stage
 use Rattle.parse_script.specs.declared.stage.Use.{Use}
 use Rattle.parse_script.specs.declared.stage.Use.TheVariants as for_
-use Rattle.parse_script.specs.Reading.{around, top, floor_depth, added_to, added, entered, func_def}
+use Rattle.parse_script.specs.computed.Reading.{around, top, floor_depth, added_to, added, entered, func_def}
 use Rattle.parse_script.specs.Statements as s
-use Rattle.parse_script.specs.Statements.{heaviest, branch}
+use Rattle.mono_syntax.specs.Limits.{greatest_weight}
+use Rattle.parse_script.specs.Statements.{branch}
 use Rattle.parse_script.proofs.ClassLive.{class_alive}
 use Rattle.parse_script.proofs.DefLive.{def_alive}
 use Rattle.parse_script.proofs.Live.{Live}
@@ -112,13 +113,13 @@ next_found w P x = record { tokens = tok w here ∷ x.tokens; items = x.items; h
 
 expr_found : (m : Mode) (P : Expr → List Spelled → List Item → Type 0) → Reached m → ((e : Expr) → Found (P e)) → Found (λ ts all. NextExpr m (λ e us. P e us all) ts)
 expr_found m P r h =
-    let x = expr_alive heaviest (omega arith) r.0 m r.1 in
+    let x = expr_alive greatest_weight (omega arith) r.0 m r.1 in
     let f = h x.2 in
     record { tokens = x.0 ++ f.tokens; items = f.items; holds = record { part = x.0; more = f.tokens; tree = x.2; ends = (x.1, x.3, x.4); split = refl; rest = f.holds } }
 
 type_found : (m : TypeMode) (P : Ann → List Spelled → List Item → Type 0) → ReachedType m → ((a : Ann) → Found (P a)) → Found (λ ts all. NextType m (λ a us. P a us all) ts)
 type_found m P r h =
-    let x = type_alive heaviest (omega arith) r.0 m r.1 in
+    let x = type_alive greatest_weight (omega arith) r.0 m r.1 in
     let f = h x.1 in
     record { tokens = x.0 ++ f.tokens; items = f.items; holds = record { part = x.0; more = f.tokens; tree = x.1; weight = x.2; goes = x.3; split = refl; rest = f.holds } }
 

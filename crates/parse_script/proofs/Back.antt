@@ -22,10 +22,10 @@ use Rattle.parse_expr.specs.declared.machine.Mode.TheVariants as mode
 use Rattle.parse_expr.specs.declared.machine.TypeMode.{TypeMode}
 use Rattle.parse_expr.specs.declared.machine.TypeMode.TheVariants as type_mode
 use Rattle.parse_expr.specs.declared.machine.Weighed.{Weighed}
-use Rattle.parse_expr.specs.Goes.{Goes, stay, go}
+use Rattle.parse_expr.specs.computed.Goes.{Goes, stay, go}
 use Rattle.parse_expr.specs.Grammar.{no_args, last_arg, more_args}
-use Rattle.parse_expr.specs.Reading.{step, finish, held}
-use Rattle.parse_expr.specs.TypeReading.{type_step, type_finish}
+use Rattle.parse_expr.specs.computed.Reading.{step, finish, held}
+use Rattle.parse_expr.specs.computed.TypeReading.{type_step, type_finish}
 use Rattle.parse_expr.specs.Types.{word}
 use Rattle.parse_script.specs.declared.stage.Around.{Around}
 use Rattle.parse_script.specs.declared.stage.Listed.{Listed}
@@ -34,9 +34,9 @@ use Rattle.parse_script.specs.declared.stage.Stage.{Stage}
 use Rattle.parse_script.specs.declared.stage.Stage.TheVariants as stage
 use Rattle.parse_script.specs.declared.stage.Use.{Use}
 use Rattle.parse_script.specs.declared.stage.Use.TheVariants as for_
-use Rattle.parse_script.specs.Reading.{added_stage, behind_used, behind_found, inside_next, inside_step, inside, listed_stage, behind_argument, found_argument, argument_next, argument_step, listing_at, listing_step, plain_found, plain_next, plain_on, plain_held, plain_at, plain_step, dotted_step, attribute_step, target_at, target_step, named_at, named_step, assigning_at, assigning_step, typed_end, typed_next, typed_step, returning_at, returning_step}
-use Rattle.parse_script.specs.Endings.{ending_of}
-use Rattle.parse_script.specs.Statements.{heaviest}
+use Rattle.parse_script.specs.computed.Reading.{added_stage, behind_used, behind_found, inside_next, inside_step, inside, listed_stage, behind_argument, found_argument, argument_next, argument_step, listing_at, listing_step, plain_found, plain_next, plain_on, plain_held, plain_at, plain_step, dotted_step, attribute_step, target_at, target_step, named_at, named_step, assigning_at, assigning_step, typed_end, typed_next, typed_step, returning_at, returning_step}
+use Rattle.parse_script.specs.computed.Endings.{ending_of}
+use Rattle.mono_syntax.specs.Limits.{greatest_weight}
 use Rattle.parse_script.proofs.Live.{Live, held_light, named_reached, dot_goes, field_goes, attribute_reached}
 use Rattle.parse_script.proofs.Rest.{Rest, Next, NextName, NextExpr, NextType, RestUse, RestInside, RestListed, RestListing, RestArgument, RestPlain, RestAttribute, RestAssigning, RestTyped, RestNamed}
 use Rattle.parse_script.proofs.Steps.{none_some, some_is, split_option, type_finished, Reached, ReachedType, begins, goes_on, reached_start, reached_more}
@@ -55,7 +55,7 @@ pub next_is : (w : What) (P : Place → List Spelled → Type 0) (t : Spelled) (
 next_is w P t ts e r = record { place = t.place; more = ts; split = λ i. tok (e i) t.place ∷ ts; rest = r }
 
 -- a step more of an expression
-pub expr_back : (m k : Mode) (t : Spelled) (P : Expr → List Spelled → Type 0) (ts : List Spelled) → step heaviest m t ≡ Some k → NextExpr k P ts → NextExpr m P (t ∷ ts)
+pub expr_back : (m k : Mode) (t : Spelled) (P : Expr → List Spelled → Type 0) (ts : List Spelled) → step greatest_weight m t ≡ Some k → NextExpr k P ts → NextExpr m P (t ∷ ts)
 expr_back m k t P ts e r =
     let x = r.ends in
     record { part = t ∷ r.part; more = r.more; tree = r.tree; ends = (x.0, go m k x.0 t r.part e x.1, x.2); split = ap (λ (l : List Spelled). t ∷ l) r.split; rest = r.rest }
@@ -64,13 +64,13 @@ expr_back m k t P ts e r =
 pub expr_end : (m : Mode) (e : Expr) (P : Expr → List Spelled → Type 0) (ts : List Spelled) → finish m ≡ Some e → P e ts → NextExpr m P ts
 expr_end m e P ts f r = record { part = []; more = ts; tree = e; ends = (m, stay m, f); split = refl; rest = r }
 
-pub type_back : (m k : TypeMode) (t : Spelled) (P : Ann → List Spelled → Type 0) (ts : List Spelled) → type_step heaviest m t ≡ Some k → NextType k P ts → NextType m P (t ∷ ts)
+pub type_back : (m k : TypeMode) (t : Spelled) (P : Ann → List Spelled → Type 0) (ts : List Spelled) → type_step greatest_weight m t ≡ Some k → NextType k P ts → NextType m P (t ∷ ts)
 type_back m k t P ts e r =
     record { part = t ∷ r.part; more = r.more; tree = r.tree; weight = r.weight; goes = go m k (type_mode.Have [] r.tree r.weight) t r.part e r.goes; split = ap (λ (l : List Spelled). t ∷ l) r.split; rest = r.rest }
 
 pub type_end : (m : TypeMode) (a : Weighed) (P : Ann → List Spelled → Type 0) (ts : List Spelled) → type_finish m ≡ Some a → P a.ann ts → NextType m P ts
 type_end m a P ts f r =
-    record { part = []; more = ts; tree = a.ann; weight = a.weight; goes = subst (λ (z : TypeMode). Goes (type_step heaviest) z [] (type_mode.Have [] a.ann a.weight)) (sym (type_finished m a f)) (stay (type_mode.Have [] a.ann a.weight)); split = refl; rest = r }
+    record { part = []; more = ts; tree = a.ann; weight = a.weight; goes = subst (λ (z : TypeMode). Goes (type_step greatest_weight) z [] (type_mode.Have [] a.ann a.weight)) (sym (type_finished m a f)) (stay (type_mode.Have [] a.ann a.weight)); split = refl; rest = r }
 
 -- ---- an expression that is read for something
 
@@ -91,7 +91,7 @@ used_sound a (for_.Branch bs) e t w n i h = none_some _ h
 
 pub inside_sound : (a : Around) (u : Use) (m : Mode) (t : Spelled) (n : Stage) → Reached m → inside_step a u m t ≡ Some n → Sound (λ ts all. RestInside a u m ts all) t n
 inside_sound a u m t n r h =
-    split_option (step heaviest m t) (Sound (λ ts all. RestInside a u m ts all) t n)
+    split_option (step greatest_weight m t) (Sound (λ ts all. RestInside a u m ts all) t n)
     (λ e.
     split_option (finish m) (Sound (λ ts all. RestInside a u m ts all) t n)
     (λ f. none_some _ (sym (ap (λ o. behind_found a u o (ending_of t.what)) f) ∙ sym (ap (inside_next a u (finish m) (ending_of t.what)) e) ∙ h))
@@ -104,7 +104,7 @@ inside_sound a u m t n r h =
 
 -- ---- statements that an expression begins
 
-pub plain_back : (a : Around) (m k : Mode) (t : Spelled) (ts : List Spelled) (all : List Item) → step heaviest m t ≡ Some k → RestPlain a k ts all → RestPlain a m (t ∷ ts) all
+pub plain_back : (a : Around) (m k : Mode) (t : Spelled) (ts : List Spelled) (all : List Item) → step greatest_weight m t ≡ Some k → RestPlain a k ts all → RestPlain a m (t ∷ ts) all
 plain_back a m k t ts all e (inl r) = inl (expr_back m k t _ ts e r)
 plain_back a m k t ts all e (inr r) =
     inr (record {
@@ -126,7 +126,7 @@ found_plain a None w n h = none_some _ h
 
 pub plain_on_sound : (a : Around) (m : Mode) (t : Spelled) (n : Stage) → Reached m → plain_on a m t ≡ Some n → Sound (λ ts all. RestPlain a m ts all) t n
 plain_on_sound a m t n r h =
-    split_option (step heaviest m t) (Sound (λ ts all. RestPlain a m ts all) t n)
+    split_option (step greatest_weight m t) (Sound (λ ts all. RestPlain a m ts all) t n)
     (λ e.
     let f = found_plain a (finish m) t.what n (sym (ap (plain_next a (finish m) (ending_of t.what)) e) ∙ h) in
     sound_at _ t (added_stage a (stmt.plain f.0)) n f.3 (record { live = tt; back = λ ts all q. inl (expr_end m f.0 _ (t ∷ ts) f.1 (next_is (what.Mark mark.Newline) _ t ts f.2 q)) }))
@@ -154,7 +154,7 @@ at_dot a (mode.Have h) w o n e = held_dot a h.stack h.tree h.weight w o n e
 at_dot a m w o n e = inr e
 
 -- a receiver goes on as a target or as an attribute
-attribute_back : (a : Around) (o : Expr) (w : ℕ) (p : Place) (x : Word) (ts : List Spelled) (all : List Item) → w ≤ heaviest → RestAttribute a o w x ts all
+attribute_back : (a : Around) (o : Expr) (w : ℕ) (p : Place) (x : Word) (ts : List Spelled) (all : List Item) → w ≤ greatest_weight → RestAttribute a o w x ts all
     → RestPlain a (mode.Have (held [] o w)) (tok what.Dot p ∷ tok (what.Name x.text) x.place ∷ ts) all
 attribute_back a o w p x ts all l (inl v) =
     inr (record {
@@ -196,10 +196,10 @@ dotted_sound a o w t (what.Name x) n i r h =
 dotted_sound a o w t v n i r h = none_some _ h
 
 -- what goes on as an attribute
-attributed : (a : Around) (o : Expr) (w : ℕ) (x : Word) (t : Spelled) (n : Stage) (b : Bool) → nat_lt w heaviest ≡ b → (w < heaviest → Reached (mode.Have (held [] (expr.read o x) (suc w))))
+attributed : (a : Around) (o : Expr) (w : ℕ) (x : Word) (t : Spelled) (n : Stage) (b : Bool) → nat_lt w greatest_weight ≡ b → (w < greatest_weight → Reached (mode.Have (held [] (expr.read o x) (suc w))))
     → attribute_step b a o w x t ≡ Some n → Sound (λ ts all. RestAttribute a o w x ts all) t n
 attributed a o w x t n true b r h =
-    let l : w < heaviest = ltb-true w heaviest b in
+    let l : w < greatest_weight = ltb-true w greatest_weight b in
     let s = plain_sound a (mode.Have (held [] (expr.read o x) (suc w))) t n (r l) h in
     record { live = s.live; back = λ ts all q. inr (l, s.back ts all q) }
 attributed a o w x t n false b r h = none_some _ h
@@ -209,12 +209,12 @@ at_target : (a : Around) (o : Expr) (x : Word) (w : What) (s : Option Stage) (n 
 at_target a o x (what.Mark mark.Equals) s n h = inl (refl, some_is h)
 at_target a o x w s n h = inr h
 
-pub target_sound : (a : Around) (o : Expr) (w : ℕ) (x : Word) (t : Spelled) (n : Stage) → (w < heaviest → Reached (mode.Have (held [] (expr.read o x) (suc w))))
+pub target_sound : (a : Around) (o : Expr) (w : ℕ) (x : Word) (t : Spelled) (n : Stage) → (w < greatest_weight → Reached (mode.Have (held [] (expr.read o x) (suc w))))
     → target_step a o w x t ≡ Some n → Sound (λ ts all. RestAttribute a o w x ts all) t n
 target_sound a o w x t n r h =
-    elim (at_target a o x t.what (attribute_step (nat_lt w heaviest) a o w x t) n h) [
+    elim (at_target a o x t.what (attribute_step (nat_lt w greatest_weight) a o w x t) n h) [
       | inl e ↦ sound_at _ t (inside a (for_.Write o x)) n e.1 (record { live = begins; back = λ ts all q. inl (next_is (what.Mark mark.Equals) _ t ts e.0 q) })
-      | inr e ↦ attributed a o w x t n (nat_lt w heaviest) refl r e
+      | inr e ↦ attributed a o w x t n (nat_lt w greatest_weight) refl r e
     ]
 
 -- ---- a name that begins a statement
@@ -248,7 +248,7 @@ at_typed a x None w n h = none_some _ h
 
 pub typed_sound : (a : Around) (x : Word) (m : TypeMode) (t : Spelled) (n : Stage) → ReachedType m → typed_step a x m t ≡ Some n → Sound (λ ts all. RestTyped a x m ts all) t n
 typed_sound a x m t n r h =
-    split_option (type_step heaviest m t) (Sound (λ ts all. RestTyped a x m ts all) t n)
+    split_option (type_step greatest_weight m t) (Sound (λ ts all. RestTyped a x m ts all) t n)
     (λ e.
     let f = at_typed a x (type_finish m) t.what n (sym (ap (typed_next a x (type_finish m) (ending_of t.what)) e) ∙ h) in
     sound_at _ t (inside a (for_.Assign x (Some (f.0).ann))) n f.3 (record { live = begins; back = λ ts all q. type_end m f.0 _ (t ∷ ts) f.1 (next_is (what.Mark mark.Equals) _ t ts f.2 q) }))
@@ -302,7 +302,7 @@ behind_sound a l es t w n i h = none_some _ h
 pub argument_sound : (a : Around) (l : Listed) (es : List Expr) (m : Mode) (t : Spelled) (n : Stage) → Reached m → argument_step a l es m t ≡ Some n
     → Sound (λ ts all. Rest (stage.Argument a l es m) ts all) t n
 argument_sound a l es m t n r h =
-    split_option (step heaviest m t) (Sound (λ ts all. Rest (stage.Argument a l es m) ts all) t n)
+    split_option (step greatest_weight m t) (Sound (λ ts all. Rest (stage.Argument a l es m) ts all) t n)
     (λ e.
     split_option (finish m) (Sound (λ ts all. Rest (stage.Argument a l es m) ts all) t n)
     (λ f. none_some _ (sym (ap (λ o. found_argument a l es o (ending_of t.what)) f) ∙ sym (ap (argument_next a l es (finish m) (ending_of t.what)) e) ∙ h))
@@ -317,7 +317,7 @@ argument_sound a l es m t n r h =
 pub argument_listing : (a : Around) (l : Listed) (es : List Expr) (ts : List Spelled) (all : List Item) → NextExpr (mode.Want []) (λ e us. RestArgument a l (es ++ (e ∷ [])) us all) ts → RestListing a l es ts all
 argument_listing a l es ts all r =
     let x = r.ends in
-    let d = expr_sound heaviest (omega arith) r.part x.0 r.tree x.1 x.2 in
+    let d = expr_sound greatest_weight (omega arith) r.part x.0 r.tree x.1 x.2 in
     elim r.rest [
       | inl c ↦ (
           let s = c.rest in

@@ -22,9 +22,9 @@ use Rattle.spelled_tokens.specs.SpelledTokens.{tok, sign}
 use Rattle.parse_expr.specs.declared.machine.Mode.{Mode}
 use Rattle.parse_expr.specs.declared.machine.Mode.TheVariants as mode
 use Rattle.parse_expr.specs.declared.machine.TypeMode.TheVariants as type_mode
-use Rattle.parse_expr.specs.Goes.{Goes}
+use Rattle.parse_expr.specs.computed.Goes.{Goes}
 use Rattle.parse_expr.specs.Grammar.{DerivesArgs, IsExpr}
-use Rattle.parse_expr.specs.Reading.{step, finish, held}
+use Rattle.parse_expr.specs.computed.Reading.{step, finish, held}
 use Rattle.parse_expr.specs.Types.{word}
 use Rattle.parse_script.specs.declared.stage.Around.{Around}
 use Rattle.parse_script.specs.declared.stage.ClassStage.TheVariants as class_stage
@@ -42,10 +42,11 @@ use Rattle.parse_script.specs.declared.stage.Stage.TheVariants as stage
 use Rattle.parse_script.specs.declared.stage.Use.TheVariants as for_
 use Rattle.parse_script.specs.Definitions.{DerivesDef}
 use Rattle.parse_script.specs.Definitions as defs
-use Rattle.parse_script.specs.Endings.{ending_of}
-use Rattle.parse_script.specs.Reading.{around, top, is_def, floor_depth, depth, added_to, added, entered, func_def, left, end_at, class_at, def_at, stage_if, inside, plain_on, start_mark, start_at, start_step, behind_at, behind_step}
+use Rattle.parse_script.specs.computed.Endings.{ending_of}
+use Rattle.parse_script.specs.computed.Reading.{around, top, is_def, floor_depth, depth, added_to, added, entered, func_def, left, end_at, class_at, def_at, stage_if, inside, plain_on, start_mark, start_at, start_step, behind_at, behind_step}
 use Rattle.parse_script.specs.Statements as s
-use Rattle.parse_script.specs.Statements.{heaviest, deepest, branch, DerivesStmt, DerivesTail, DerivesBlock, DerivesStmts, indented}
+use Rattle.mono_syntax.specs.Limits.{greatest_weight, most_blocks}
+use Rattle.parse_script.specs.Statements.{branch, DerivesStmt, DerivesTail, DerivesBlock, DerivesStmts, indented}
 use Rattle.parse_script.proofs.Back.{Sound, sound_at, plain_back, plain_on_sound}
 use Rattle.parse_script.proofs.ClassExact.{class_sound}
 use Rattle.parse_script.proofs.Collect.{AnyStmts, nothing, more, some_stmts, collect, collect_body}
@@ -63,8 +64,8 @@ begun : (a : Around) (us vs ts : List Spelled) (t : Stmt) (all : List Item) → 
 begun a us vs ts t all d e r = statement a.floor a.opened a.done us vs ts t all d e r
 
 -- an expression that was read is one
-read_expr : (m : Mode) (ts : List Spelled) (e : Expr) → m ≡ mode.Want [] → (n : Mode) × Goes (step heaviest) m ts n × (finish n ≡ Some e) → IsExpr heaviest ts e
-read_expr m ts e i x = expr_sound heaviest (omega arith) ts x.0 e (subst (λ (z : Mode). Goes (step heaviest) z ts x.0) i x.1) x.2
+read_expr : (m : Mode) (ts : List Spelled) (e : Expr) → m ≡ mode.Want [] → (n : Mode) × Goes (step greatest_weight) m ts n × (finish n ≡ Some e) → IsExpr greatest_weight ts e
+read_expr m ts e i x = expr_sound greatest_weight (omega arith) ts x.0 e (subst (λ (z : Mode). Goes (step greatest_weight) z ts x.0) i x.1) x.2
 
 -- ---- simple statements
 
@@ -102,7 +103,7 @@ plain_begun a ts all (inr r) =
     let q = n.rest in
     let v = q.rest in
     let l = v.rest in
-    let o = postfix_sound heaviest (omega arith) r.part r.weight r.tree r.goes in
+    let o = postfix_sound greatest_weight (omega arith) r.part r.weight r.tree r.goes in
     let x = word n.name n.place in
     begun a (r.part ++ (tok what.Dot d.place ∷ tok (what.Name n.name) n.place ∷ sign mark.Equals q.place ∷ (v.part ++ (sign mark.Newline l.place ∷ [])))) l.more ts (stmt.write r.tree x v.tree) all
     (s.write (depth a) d.place n.place q.place l.place n.name r.part r.weight r.tree v.part v.tree o.0 o.1 (read_expr (mode.Want []) v.part v.tree refl v.ends))
@@ -112,7 +113,7 @@ plain_begun a ts all (inr r) =
     (v.split ∙ ap (λ (k : List Spelled). v.part ++ k) l.split ∙ sym (append_assoc v.part (sign mark.Newline l.place ∷ []) l.more)))))
     ∙ sym (append_assoc r.part (tok what.Dot d.place ∷ tok (what.Name n.name) n.place ∷ sign mark.Equals q.place ∷ (v.part ++ (sign mark.Newline l.place ∷ []))) l.more)) l.rest
 
-started : (a : Around) (x : List ℕ) (p q r o c : Place) (us : List Spelled) (w : ℕ) (es : List Expr) (vs : List Spelled) (all : List Item) (ts : List Spelled) → DerivesArgs us w es → w ≤ heaviest
+started : (a : Around) (x : List ℕ) (p q r o c : Place) (us : List Spelled) (w : ℕ) (es : List Expr) (vs : List Spelled) (all : List Item) (ts : List Spelled) → DerivesArgs us w es → w ≤ greatest_weight
     → ts ≡ tok (what.Name x) p ∷ sign mark.Equals q ∷ sign mark.Start r ∷ tok what.Open o ∷ (us ++ (tok what.Close c ∷ vs)) → RestListed a (listed.Start (word x p) o) es vs all → RestAt a ts all
 started a x p q r o c us w [] vs all ts d l e h = absurd h
 started a x p q r o c us w (y ∷ es) vs all ts d l e h =
@@ -144,7 +145,7 @@ declare_begun a x p q ts us all e r =
     let l = v.rest in
     begun a (tok (what.Name x) p ∷ sign mark.Colon q ∷ (r.part ++ (sign mark.Equals d.place ∷ (v.part ++ (sign mark.Newline l.place ∷ []))))) l.more (tok (what.Name x) p ∷ ts)
     (stmt.assign (word x p) (Some r.tree) v.tree) all
-    (s.declare (depth a) p q d.place l.place x r.part r.tree v.part v.tree (type_sound heaviest r.part r.tree r.weight r.goes) (read_expr (mode.Want []) v.part v.tree refl v.ends))
+    (s.declare (depth a) p q d.place l.place x r.part r.tree v.part v.tree (type_sound greatest_weight r.part r.tree r.weight r.goes) (read_expr (mode.Want []) v.part v.tree refl v.ends))
     (ap (λ (k : List Spelled). tok (what.Name x) p ∷ k) (e ∙ ap (λ (k : List Spelled). sign mark.Colon q ∷ k)
     (r.split ∙ ap (λ (k : List Spelled). r.part ++ k) (d.split ∙ ap (λ (k : List Spelled). sign mark.Equals d.place ∷ k)
     (v.split ∙ ap (λ (k : List Spelled). v.part ++ k) l.split ∙ sym (append_assoc v.part (sign mark.Newline l.place ∷ []) l.more)))
@@ -214,7 +215,7 @@ else_behind : (f : Floor) (k : List Opened) (done : List Stmt) (bs : List Branch
     → RestAt (added_to f k done (stmt.if_any (branches bs) (stmt.otherwise (block ss)))) vs all
 else_behind f k done bs ss vs all (else_left g l d cs t ts us is r) = r
 
-while_begun : (a : Around) (p : Place) (ts : List Spelled) (all : List Item) → depth a < deepest → RestInside a for_.While (mode.Want []) ts all → RestAt a (sign mark.While p ∷ ts) all
+while_begun : (a : Around) (p : Place) (ts : List Spelled) (all : List Item) → depth a < most_blocks → RestInside a for_.While (mode.Want []) ts all → RestAt a (sign mark.While p ∷ ts) all
 while_begun a p ts all d r =
     let c = r.rest in
     let b = block_read a (head.While r.tree) c.more all c.rest in
@@ -237,7 +238,7 @@ record TailRead (a : Around) (bs : List Branch) (ts : List Spelled) (all : List 
 tail_read : (f : Floor) (k : List Opened) (done : List Stmt) (bs : List Branch) (ts : List Spelled) (all : List Item) → RestBehind f k done bs ts all → TailRead (around f k done) bs ts all
 tail_read f k done bs ts all (behind g l d as_ cs el us vs ws is t e r) = record { part = us; tail = vs; others = cs; else_part = el; derives = t; split = e; rest = r }
 
-if_begun : (a : Around) (p : Place) (ts : List Spelled) (all : List Item) → depth a < deepest → RestInside a (for_.Branch []) (mode.Want []) ts all → RestAt a (sign mark.If p ∷ ts) all
+if_begun : (a : Around) (p : Place) (ts : List Spelled) (all : List Item) → depth a < most_blocks → RestInside a (for_.Branch []) (mode.Want []) ts all → RestAt a (sign mark.If p ∷ ts) all
 if_begun a p ts all d r =
     let c = r.rest in
     let b = block_read a (head.Branch [] r.tree) c.more all c.rest in
@@ -399,11 +400,11 @@ mark_sound a mark.Return t n i h =
     sound_at _ t (stage.Returning a t.place) n e.1 (begun_by a mark.Return t (stage.Returning a t.place) i tt (λ ts all r. return_begun a t.place ts all e.0 r))
 mark_sound a mark.Print t n i h = sound_at _ t (stage.PrintWord a) n (some_is h) (begun_by a mark.Print t (stage.PrintWord a) i tt (λ ts all r. print_begun a t.place ts all r))
 mark_sound a mark.If t n i h =
-    let e = stage_if_is (nat_lt (depth a) deepest) (inside a (for_.Branch [])) n h in
-    sound_at _ t (inside a (for_.Branch [])) n e.1 (begun_by a mark.If t (inside a (for_.Branch [])) i begins (λ ts all r. if_begun a t.place ts all (ltb-true (depth a) deepest e.0) r))
+    let e = stage_if_is (nat_lt (depth a) most_blocks) (inside a (for_.Branch [])) n h in
+    sound_at _ t (inside a (for_.Branch [])) n e.1 (begun_by a mark.If t (inside a (for_.Branch [])) i begins (λ ts all r. if_begun a t.place ts all (ltb-true (depth a) most_blocks e.0) r))
 mark_sound a mark.While t n i h =
-    let e = stage_if_is (nat_lt (depth a) deepest) (inside a for_.While) n h in
-    sound_at _ t (inside a for_.While) n e.1 (begun_by a mark.While t (inside a for_.While) i begins (λ ts all r. while_begun a t.place ts all (ltb-true (depth a) deepest e.0) r))
+    let e = stage_if_is (nat_lt (depth a) most_blocks) (inside a for_.While) n h in
+    sound_at _ t (inside a for_.While) n e.1 (begun_by a mark.While t (inside a for_.While) i begins (λ ts all r. while_begun a t.place ts all (ltb-true (depth a) most_blocks e.0) r))
 mark_sound a mark.Class t n i h = class_at_sound a.floor a.opened a.done t n i h
 mark_sound a mark.Def t n i h = def_at_sound a.floor a.opened a.done t n i h
 mark_sound a mark.Dedent t n i h =

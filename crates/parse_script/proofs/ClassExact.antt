@@ -15,36 +15,36 @@ use Rattle.spelled_tokens.specs.SpelledTokens.{tok, sign}
 use Rattle.parse_expr.specs.declared.machine.TypeMode.{TypeMode}
 use Rattle.parse_expr.specs.declared.machine.TypeMode.TheVariants as type_mode
 use Rattle.parse_expr.specs.declared.machine.Weighed.{Weighed}
-use Rattle.parse_expr.specs.Goes.{Goes, stay, go}
-use Rattle.parse_expr.specs.TypeReading.{type_step, type_finish}
+use Rattle.parse_expr.specs.computed.Goes.{Goes, stay, go}
+use Rattle.parse_expr.specs.computed.TypeReading.{type_step, type_finish}
 use Rattle.parse_expr.specs.Types.{IsType, word}
 use Rattle.parse_expr.proofs.Goes.{then, goes_nil, goes_cons}
 use Rattle.parse_script.specs.declared.stage.ClassStage.{ClassStage}
 use Rattle.parse_script.specs.declared.stage.ClassStage.TheVariants as stage
-use Rattle.parse_script.specs.ClassReading.{class_def, field_def, class_word, class_name, class_colon, class_line, class_body, class_pass, class_pass_line, class_field, field_end, class_type, class_fields, class_step}
+use Rattle.parse_script.specs.computed.ClassReading.{class_def, field_def, class_word, class_name, class_colon, class_line, class_body, class_pass, class_pass_line, class_field, field_end, class_type, class_fields, class_step}
 use Rattle.parse_script.specs.Definitions.{DerivesField, field, DerivesFields, one_field, more_fields, DerivesClass, no_fields, fields}
-use Rattle.parse_script.specs.Endings.{ending_of}
-use Rattle.parse_script.specs.Statements.{heaviest}
+use Rattle.parse_script.specs.computed.Endings.{ending_of}
+use Rattle.mono_syntax.specs.Limits.{greatest_weight}
 use Rattle.parse_script.proofs.Steps.{none_some, some_is, head_is, split_option, type_finished, one}
 use Rattle.parse_expr.proofs.Readings.{type_goes, type_sound}
 
 -- ---- what the grammar has is read
 
-pub type_go : (w : Word) (fs : List FieldDef) (x : Word) (a : Ann) (v : ℕ) (r : Place) (m : TypeMode) (ts : List Spelled) → Goes (type_step heaviest) m ts (type_mode.Have [] a v)
+pub type_go : (w : Word) (fs : List FieldDef) (x : Word) (a : Ann) (v : ℕ) (r : Place) (m : TypeMode) (ts : List Spelled) → Goes (type_step greatest_weight) m ts (type_mode.Have [] a v)
     → Goes class_step (stage.Type w fs x m) (ts ++ (sign mark.Newline r ∷ [])) (stage.Fields w (fs ++ (field_def x a ∷ [])))
 type_go w fs x a v r m [] g =
-    let e : m ≡ type_mode.Have [] a v = goes_nil (type_step heaviest) g in
+    let e : m ≡ type_mode.Have [] a v = goes_nil (type_step greatest_weight) g in
     one class_step (stage.Type w fs x m) (stage.Fields w (fs ++ (field_def x a ∷ []))) (sign mark.Newline r)
     (ap (λ n. class_step (stage.Type w fs x n) (sign mark.Newline r)) e)
 type_go w fs x a v r m (t ∷ ts) g =
-    let c = goes_cons (type_step heaviest) g in
+    let c = goes_cons (type_step greatest_weight) g in
     go (stage.Type w fs x m) (stage.Type w fs x c.0) (stage.Fields w (fs ++ (field_def x a ∷ []))) t (ts ++ (sign mark.Newline r ∷ []))
     (ap (class_type w fs x (type_finish m) (ending_of t.what)) c.1) (type_go w fs x a v r c.0 ts c.2)
 
-field_go : (w : Word) (fs : List FieldDef) (x : Word) (q r : Place) (ts : List Spelled) (a : Ann) → IsType heaviest ts a
+field_go : (w : Word) (fs : List FieldDef) (x : Word) (q r : Place) (ts : List Spelled) (a : Ann) → IsType greatest_weight ts a
     → Goes class_step (stage.Field w fs x) (sign mark.Colon q ∷ (ts ++ (sign mark.Newline r ∷ []))) (stage.Fields w (fs ++ (field_def x a ∷ [])))
 field_go w fs x q r ts a h =
-    let g = type_goes heaviest ts a h in
+    let g = type_goes greatest_weight ts a h in
     go (stage.Field w fs x) (stage.Type w fs x (type_mode.Want [])) (stage.Fields w (fs ++ (field_def x a ∷ []))) (sign mark.Colon q) (ts ++ (sign mark.Newline r ∷ [])) refl
     (type_go w fs x a g.0 r (type_mode.Want []) ts g.1)
 
@@ -132,7 +132,7 @@ record TypeRest (w : Word) (fs : List FieldDef) (x : Word) (m : TypeMode) (ts : 
   type : Ann
   place : Place
   more : List Spelled
-  goes : Goes (type_step heaviest) m part (type_mode.Have [] type weight)
+  goes : Goes (type_step greatest_weight) m part (type_mode.Have [] type weight)
   split : ts ≡ part ++ (sign mark.Newline place ∷ more)
   rest : FieldsRest w (fs ++ (field_def x type ∷ [])) more c
 
@@ -140,7 +140,7 @@ field_rest : (w : Word) (fs : List FieldDef) (p q : Place) (x : List ℕ) (us ts
     → FieldsRest w fs (tok (what.Name x) p ∷ ts) c
 field_rest w fs p q x us ts c e r =
     let s = r.rest in
-    let f = field p q r.place x r.part r.type (type_sound heaviest r.part r.type r.weight r.goes) in
+    let f = field p q r.place x r.part r.type (type_sound greatest_weight r.part r.type r.weight r.goes) in
     record {
       part = (tok (what.Name x) p ∷ sign mark.Colon q ∷ (r.part ++ (sign mark.Newline r.place ∷ []))) ++ s.part;
       more_of = field_def (word x p) r.type ∷ s.more_of;
@@ -273,7 +273,7 @@ mutual
   type_left w fs x m [] c g = not_done (stage.Type w fs x m) c _ refl g
   type_left w fs x m (t ∷ ts) c g =
       let s = stepped (stage.Type w fs x m) t ts c g in
-      split_option (type_step heaviest m t) (TypeRest w fs x m (t ∷ ts) c)
+      split_option (type_step greatest_weight m t) (TypeRest w fs x m (t ∷ ts) c)
       (λ e.
       let n = at_field_end w fs x (type_finish m) t.what s.next (sym (ap (class_type w fs x (type_finish m) (ending_of t.what)) e) ∙ s.step_is) in
       let r = fields_left w (fs ++ (field_def x (n.0).ann ∷ [])) ts c (subst (λ (z : ClassStage). Goes class_step z ts (stage.Done c)) (n.2).1 s.run) in
@@ -283,7 +283,7 @@ mutual
         type = (n.0).ann;
         place = t.place;
         more = ts;
-        goes = subst (λ (z : TypeMode). Goes (type_step heaviest) z [] (type_mode.Have [] (n.0).ann (n.0).weight)) (sym (type_finished m n.0 n.1)) (stay (type_mode.Have [] (n.0).ann (n.0).weight));
+        goes = subst (λ (z : TypeMode). Goes (type_step greatest_weight) z [] (type_mode.Have [] (n.0).ann (n.0).weight)) (sym (type_finished m n.0 n.1)) (stay (type_mode.Have [] (n.0).ann (n.0).weight));
         split = λ i. tok ((n.2).0 i) t.place ∷ ts;
         rest = r;
       })

@@ -9,14 +9,14 @@ use Rattle.spelled_tokens.specs.declared.token.What.TheVariants as what
 use Rattle.spelled_tokens.specs.SpelledTokens.{tok, sign}
 use Rattle.parse_expr.specs.declared.machine.TypeMode.{TypeMode}
 use Rattle.parse_expr.specs.declared.machine.TypeMode.TheVariants as type_mode
-use Rattle.parse_expr.specs.Goes.{Goes, go}
-use Rattle.parse_expr.specs.TypeReading.{type_step, type_finish}
+use Rattle.parse_expr.specs.computed.Goes.{Goes, go}
+use Rattle.parse_expr.specs.computed.TypeReading.{type_step, type_finish}
 use Rattle.parse_expr.proofs.Goes.{then}
 use Rattle.parse_script.specs.declared.stage.ClassStage.{ClassStage}
 use Rattle.parse_script.specs.declared.stage.ClassStage.TheVariants as stage
-use Rattle.parse_script.specs.ClassReading.{class_def, field_def, class_type, class_step}
-use Rattle.parse_script.specs.Endings.{ending_of}
-use Rattle.parse_script.specs.Statements.{heaviest}
+use Rattle.parse_script.specs.computed.ClassReading.{class_def, field_def, class_type, class_step}
+use Rattle.parse_script.specs.computed.Endings.{ending_of}
+use Rattle.mono_syntax.specs.Limits.{greatest_weight}
 use Rattle.parse_script.proofs.Steps.{here, some_is, split_option, one, ReachedType, reached_more, reached_start}
 use Rattle.parse_script.proofs.ClassExact.{type_go, pass_go, at_name, at_colon, at_line, at_pass, at_pass_line, at_field, at_word, at_body, at_fields, at_field_end}
 use Rattle.parse_expr.proofs.Readings.{type_alive}
@@ -40,7 +40,7 @@ end_fields w fs = record { more = sign mark.Dedent here ∷ []; tree = class_def
 
 end_type : (w : Word) (fs : List FieldDef) (x : Word) (m : TypeMode) → ReachedType m → ClassEnd (stage.Type w fs x m)
 end_type w fs x m r =
-    let a = type_alive heaviest (omega arith) r.0 m r.1 in
+    let a = type_alive greatest_weight (omega arith) r.0 m r.1 in
     let rest = end_fields w (fs ++ (field_def x a.1 ∷ [])) in
     record {
       more = (a.0 ++ (sign mark.Newline here ∷ [])) ++ rest.more;
@@ -103,7 +103,7 @@ class_live (stage.Pass w) t n l e = moved n (stage.PassLine w) (at_pass w t.what
 class_live (stage.PassLine w) t n l e = moved n (stage.Done (class_def w [])) (at_pass_line w t.what n e).1 tt
 class_live (stage.Field w fs x) t n l e = moved n (stage.Type w fs x (type_mode.Want [])) (at_field w fs x t.what n e).1 reached_start
 class_live (stage.Type w fs x m) t n l e =
-    split_option (type_step heaviest m t) (LiveOrDone n)
+    split_option (type_step greatest_weight m t) (LiveOrDone n)
     (λ i. let a = at_field_end w fs x (type_finish m) t.what n (sym (ap (class_type w fs x (type_finish m) (ending_of t.what)) i) ∙ e) in moved n (stage.Fields w (fs ++ (field_def x (a.0).ann ∷ []))) (a.2).1 tt)
     (λ k i. moved n (stage.Type w fs x k) (sym (some_is (sym (ap (class_type w fs x (type_finish m) (ending_of t.what)) i) ∙ e))) (reached_more m k t l i))
 class_live (stage.Fields w fs) t n l e =

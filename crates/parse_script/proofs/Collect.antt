@@ -11,7 +11,7 @@ use Rattle.parse_script.specs.declared.stage.DefHead.{DefHead}
 use Rattle.parse_script.specs.declared.stage.Floor.{Floor}
 use Rattle.parse_script.specs.declared.stage.Floor.TheVariants as floor
 use Rattle.parse_script.specs.declared.stage.Opened.{Opened}
-use Rattle.parse_script.specs.Reading.{is_def, floor_depth}
+use Rattle.parse_script.specs.computed.Reading.{is_def, floor_depth}
 use Rattle.parse_script.specs.Statements.{DerivesStmt, DerivesStmts, one_stmt, more_stmts}
 use Rattle.parse_script.proofs.Rest.{RestStart, statement, closes, RestLeft}
 

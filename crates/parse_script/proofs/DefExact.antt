@@ -13,17 +13,17 @@ use Rattle.spelled_tokens.specs.SpelledTokens.{tok, sign}
 use Rattle.parse_expr.specs.declared.machine.TypeMode.{TypeMode}
 use Rattle.parse_expr.specs.declared.machine.TypeMode.TheVariants as type_mode
 use Rattle.parse_expr.specs.declared.machine.Weighed.{Weighed}
-use Rattle.parse_expr.specs.Goes.{Goes, stay, go}
-use Rattle.parse_expr.specs.TypeReading.{type_step, type_finish}
+use Rattle.parse_expr.specs.computed.Goes.{Goes, stay, go}
+use Rattle.parse_expr.specs.computed.TypeReading.{type_step, type_finish}
 use Rattle.parse_expr.specs.Types.{word}
 use Rattle.parse_expr.proofs.Goes.{then, goes_nil, goes_cons}
 use Rattle.parse_script.specs.declared.stage.DefHead.{DefHead}
 use Rattle.parse_script.specs.declared.stage.DefStage.{DefStage}
 use Rattle.parse_script.specs.declared.stage.DefStage.TheVariants as stage
-use Rattle.parse_script.specs.DefReading.{def_head, param, def_word, def_name, def_params, behind_param, def_param, param_end, def_type, def_closed, result_end, def_result, def_colon, def_line, def_step}
+use Rattle.parse_script.specs.computed.DefReading.{def_head, param, def_word, def_name, def_params, behind_param, def_param, param_end, def_type, def_closed, result_end, def_result, def_colon, def_line, def_step}
 use Rattle.parse_script.specs.Definitions.{DerivesParam, bare, typed, DerivesParams, no_params, last_param, more_params, DerivesResult, no_result, result}
-use Rattle.parse_script.specs.Endings.{ending_of}
-use Rattle.parse_script.specs.Statements.{heaviest}
+use Rattle.parse_script.specs.computed.Endings.{ending_of}
+use Rattle.mono_syntax.specs.Limits.{greatest_weight}
 use Rattle.parse_script.proofs.Steps.{none_some, some_is, split_option, type_finished, one}
 use Rattle.parse_expr.proofs.Readings.{type_goes, type_sound}
 
@@ -41,25 +41,25 @@ pub close_ends : (w : Word) (p : Place) → Ends w (tok what.Close p) (λ ys. st
 close_ends w p = record { behind = λ ys. refl; bare_behind = λ xs x. refl }
 
 pub type_go : (w : Word) (xs : List Param) (x : Word) (a : Ann) (v : ℕ) (t : Spelled) (next : List Param → DefStage) → Ends w t next → (m : TypeMode) (ts : List Spelled)
-    → Goes (type_step heaviest) m ts (type_mode.Have [] a v) → type_step heaviest (type_mode.Have [] a v) t ≡ None
+    → Goes (type_step greatest_weight) m ts (type_mode.Have [] a v) → type_step greatest_weight (type_mode.Have [] a v) t ≡ None
     → Goes def_step (stage.Type w xs x m) (ts ++ (t ∷ [])) (next (xs ++ (param x (Some a) ∷ [])))
 type_go w xs x a v t next e m [] g n =
-    let same : m ≡ type_mode.Have [] a v = goes_nil (type_step heaviest) g in
+    let same : m ≡ type_mode.Have [] a v = goes_nil (type_step greatest_weight) g in
     one def_step (stage.Type w xs x m) (next (xs ++ (param x (Some a) ∷ []))) t
     (ap (λ k. def_step (stage.Type w xs x k) t) same ∙ ap (def_type w xs x (type_finish (type_mode.Have [] a v)) (ending_of t.what)) n ∙ e.behind (xs ++ (param x (Some a) ∷ [])))
 type_go w xs x a v t next e m (u ∷ ts) g n =
-    let c = goes_cons (type_step heaviest) g in
+    let c = goes_cons (type_step greatest_weight) g in
     go (stage.Type w xs x m) (stage.Type w xs x c.0) (next (xs ++ (param x (Some a) ∷ []))) u (ts ++ (t ∷ []))
     (ap (def_type w xs x (type_finish m) (ending_of u.what)) c.1) (type_go w xs x a v t next e c.0 ts c.2 n)
 
 param_go : (w : Word) (xs : List Param) (ts : List Spelled) (y : Param) (t : Spelled) (next : List Param → DefStage) → Ends w t next
-    → ((a : Ann) (v : ℕ) → type_step heaviest (type_mode.Have [] a v) t ≡ None) → DerivesParam ts y
+    → ((a : Ann) (v : ℕ) → type_step greatest_weight (type_mode.Have [] a v) t ≡ None) → DerivesParam ts y
     → Goes def_step (stage.Params w xs) (ts ++ (t ∷ [])) (next (xs ++ (y ∷ [])))
 param_go w xs ts y t next e n (bare p x) =
     go (stage.Params w xs) (stage.Param w xs (word x p)) (next (xs ++ (param (word x p) None ∷ []))) (tok (what.Name x) p) (t ∷ []) refl
     (one def_step (stage.Param w xs (word x p)) (next (xs ++ (param (word x p) None ∷ []))) t (e.bare_behind xs (word x p) ∙ e.behind (xs ++ (param (word x p) None ∷ []))))
 param_go w xs ts y t next e n (typed p q x us a h) =
-    let g = type_goes heaviest us a h in
+    let g = type_goes greatest_weight us a h in
     go (stage.Params w xs) (stage.Param w xs (word x p)) (next (xs ++ (param (word x p) (Some a) ∷ []))) (tok (what.Name x) p) (sign mark.Colon q ∷ (us ++ (t ∷ []))) refl
     (go (stage.Param w xs (word x p)) (stage.Type w xs (word x p) (type_mode.Want [])) (next (xs ++ (param (word x p) (Some a) ∷ []))) (sign mark.Colon q) (us ++ (t ∷ [])) refl
     (type_go w xs (word x p) a g.0 t next e (type_mode.Want []) us g.1 (n a g.0)))
@@ -78,13 +78,13 @@ params_go w xs ts ys s (more_params p us vs y zs d e) =
     subst (λ (l : List Spelled). Goes def_step (stage.Params w xs) l (stage.Closed w (xs ++ (y ∷ zs)))) split
     (subst (λ (l : List Param). Goes def_step (stage.Params w xs) ((us ++ (tok what.Comma p ∷ [])) ++ (vs ++ (tok what.Close s ∷ []))) (stage.Closed w l)) (append_assoc xs (y ∷ []) zs) whole)
 
-pub result_type_go : (w : Word) (xs : List Param) (a : Ann) (v : ℕ) (p : Place) (m : TypeMode) (ts : List Spelled) → Goes (type_step heaviest) m ts (type_mode.Have [] a v)
+pub result_type_go : (w : Word) (xs : List Param) (a : Ann) (v : ℕ) (p : Place) (m : TypeMode) (ts : List Spelled) → Goes (type_step greatest_weight) m ts (type_mode.Have [] a v)
     → Goes def_step (stage.Result w xs m) (ts ++ (sign mark.Colon p ∷ [])) (stage.Colon (def_head w xs (Some a)))
 result_type_go w xs a v p m [] g =
-    let same : m ≡ type_mode.Have [] a v = goes_nil (type_step heaviest) g in
+    let same : m ≡ type_mode.Have [] a v = goes_nil (type_step greatest_weight) g in
     one def_step (stage.Result w xs m) (stage.Colon (def_head w xs (Some a))) (sign mark.Colon p) (ap (λ k. def_step (stage.Result w xs k) (sign mark.Colon p)) same)
 result_type_go w xs a v p m (u ∷ ts) g =
-    let c = goes_cons (type_step heaviest) g in
+    let c = goes_cons (type_step greatest_weight) g in
     go (stage.Result w xs m) (stage.Result w xs c.0) (stage.Colon (def_head w xs (Some a))) u (ts ++ (sign mark.Colon p ∷ []))
     (ap (def_result w xs (type_finish m) (ending_of u.what)) c.1) (result_type_go w xs a v p c.0 ts c.2)
 
@@ -92,7 +92,7 @@ result_go : (w : Word) (xs : List Param) (ts : List Spelled) (a : Option Ann) (p
     → Goes def_step (stage.Closed w xs) (ts ++ (sign mark.Colon p ∷ [])) (stage.Colon (def_head w xs a))
 result_go w xs ts a p no_result = one def_step (stage.Closed w xs) (stage.Colon (def_head w xs None)) (sign mark.Colon p) refl
 result_go w xs ts a p (result q us b h) =
-    let g = type_goes heaviest us b h in
+    let g = type_goes greatest_weight us b h in
     go (stage.Closed w xs) (stage.Result w xs (type_mode.Want [])) (stage.Colon (def_head w xs (Some b))) (sign mark.Arrow q) (us ++ (sign mark.Colon p ∷ [])) refl
     (result_type_go w xs b g.0 p (type_mode.Want []) us g.1)
 
@@ -245,7 +245,7 @@ record TypeRest (w : Word) (xs : List Param) (x : Word) (m : TypeMode) (ts : Lis
   weight : ℕ
   type : Ann
   more : List Spelled
-  goes : Goes (type_step heaviest) m part (type_mode.Have [] type weight)
+  goes : Goes (type_step greatest_weight) m part (type_mode.Have [] type weight)
   split : ts ≡ part ++ more
   rest : CommaRest w (xs ++ (param x (Some type) ∷ [])) more h ⊎ CloseRest w (xs ++ (param x (Some type) ∷ [])) more h
 
@@ -320,7 +320,7 @@ mutual
               part = sign mark.Colon t.place ∷ r.part;
               type = Some r.type;
               more = r.more;
-              derives = typed x.place t.place x.text r.part r.type (type_sound heaviest r.part r.type r.weight r.goes);
+              derives = typed x.place t.place x.text r.part r.type (type_sound greatest_weight r.part r.type r.weight r.goes);
               split = (λ i. tok (a.0 i) t.place ∷ ts) ∙ ap (λ (l : List Spelled). sign mark.Colon t.place ∷ l) r.split;
               rest = r.rest;
             })
@@ -339,7 +339,7 @@ mutual
   type_left w xs x m [] h g = not_done (stage.Type w xs x m) h _ refl g
   type_left w xs x m (t ∷ ts) h g =
       let s = stepped (stage.Type w xs x m) t ts h g in
-      split_option (type_step heaviest m t) (TypeRest w xs x m (t ∷ ts) h)
+      split_option (type_step greatest_weight m t) (TypeRest w xs x m (t ∷ ts) h)
       (λ e.
       let n = at_param_end w xs x (type_finish m) t.what s.next (sym (ap (def_type w xs x (type_finish m) (ending_of t.what)) e) ∙ s.step_is) in
       record {
@@ -347,7 +347,7 @@ mutual
         weight = (n.0).weight;
         type = (n.0).ann;
         more = t ∷ ts;
-        goes = subst (λ (z : TypeMode). Goes (type_step heaviest) z [] (type_mode.Have [] (n.0).ann (n.0).weight)) (sym (type_finished m n.0 n.1)) (stay (type_mode.Have [] (n.0).ann (n.0).weight));
+        goes = subst (λ (z : TypeMode). Goes (type_step greatest_weight) z [] (type_mode.Have [] (n.0).ann (n.0).weight)) (sym (type_finished m n.0 n.1)) (stay (type_mode.Have [] (n.0).ann (n.0).weight));
         split = refl;
         rest = behind_left w (xs ++ (param x (Some (n.0).ann) ∷ [])) t ts h s.next (λ ys g'. params_left w ys ts h g') n.2 s.run;
       })
@@ -380,7 +380,7 @@ record ResultTypeRest (w : Word) (xs : List Param) (m : TypeMode) (ts : List Spe
   type : Ann
   place : Place
   more : List Spelled
-  goes : Goes (type_step heaviest) m part (type_mode.Have [] type weight)
+  goes : Goes (type_step greatest_weight) m part (type_mode.Have [] type weight)
   split : ts ≡ part ++ (sign mark.Colon place ∷ more)
   run : Goes def_step (stage.Colon (def_head w xs (Some type))) more (stage.Done h)
 
@@ -388,7 +388,7 @@ result_left : (w : Word) (xs : List Param) (m : TypeMode) (ts : List Spelled) (h
 result_left w xs m [] h g = not_done (stage.Result w xs m) h _ refl g
 result_left w xs m (t ∷ ts) h g =
     let s = stepped (stage.Result w xs m) t ts h g in
-    split_option (type_step heaviest m t) (ResultTypeRest w xs m (t ∷ ts) h)
+    split_option (type_step greatest_weight m t) (ResultTypeRest w xs m (t ∷ ts) h)
     (λ e.
     let n = at_result_end w xs (type_finish m) t.what s.next (sym (ap (def_result w xs (type_finish m) (ending_of t.what)) e) ∙ s.step_is) in
     record {
@@ -397,7 +397,7 @@ result_left w xs m (t ∷ ts) h g =
       type = (n.0).ann;
       place = t.place;
       more = ts;
-      goes = subst (λ (z : TypeMode). Goes (type_step heaviest) z [] (type_mode.Have [] (n.0).ann (n.0).weight)) (sym (type_finished m n.0 n.1)) (stay (type_mode.Have [] (n.0).ann (n.0).weight));
+      goes = subst (λ (z : TypeMode). Goes (type_step greatest_weight) z [] (type_mode.Have [] (n.0).ann (n.0).weight)) (sym (type_finished m n.0 n.1)) (stay (type_mode.Have [] (n.0).ann (n.0).weight));
       split = λ i. tok ((n.2).0 i) t.place ∷ ts;
       run = run_at s.next (stage.Colon (def_head w xs (Some (n.0).ann))) ts h (n.2).1 s.run;
     })
@@ -427,7 +427,7 @@ closed_left w xs (t ∷ ts) h g =
             type = Some r.type;
             place = r.place;
             more = r.more;
-            derives = result t.place r.part r.type (type_sound heaviest r.part r.type r.weight r.goes);
+            derives = result t.place r.part r.type (type_sound greatest_weight r.part r.type r.weight r.goes);
             split = (λ i. tok (a.0 i) t.place ∷ ts) ∙ ap (λ (l : List Spelled). sign mark.Arrow t.place ∷ l) r.split;
             run = r.run;
           })

@@ -9,15 +9,15 @@ use Rattle.spelled_tokens.specs.declared.token.What.TheVariants as what
 use Rattle.spelled_tokens.specs.SpelledTokens.{tok, sign}
 use Rattle.parse_expr.specs.declared.machine.TypeMode.{TypeMode}
 use Rattle.parse_expr.specs.declared.machine.TypeMode.TheVariants as type_mode
-use Rattle.parse_expr.specs.Goes.{Goes, go}
-use Rattle.parse_expr.specs.TypeReading.{type_step, type_finish}
+use Rattle.parse_expr.specs.computed.Goes.{Goes, go}
+use Rattle.parse_expr.specs.computed.TypeReading.{type_step, type_finish}
 use Rattle.parse_expr.proofs.Goes.{then}
 use Rattle.parse_script.specs.declared.stage.DefHead.{DefHead}
 use Rattle.parse_script.specs.declared.stage.DefStage.{DefStage}
 use Rattle.parse_script.specs.declared.stage.DefStage.TheVariants as stage
-use Rattle.parse_script.specs.DefReading.{def_head, param, behind_param, def_type, def_result, def_step}
-use Rattle.parse_script.specs.Endings.{ending_of}
-use Rattle.parse_script.specs.Statements.{heaviest}
+use Rattle.parse_script.specs.computed.DefReading.{def_head, param, behind_param, def_type, def_result, def_step}
+use Rattle.parse_script.specs.computed.Endings.{ending_of}
+use Rattle.mono_syntax.specs.Limits.{greatest_weight}
 use Rattle.parse_script.proofs.Steps.{here, some_is, split_option, one, ReachedType, reached_more, reached_start}
 use Rattle.parse_script.proofs.DefExact.{type_go, result_type_go, line_go, close_ends, at_word, at_name, at_colon, at_line, at_params, at_behind, at_param, at_param_end, at_closed, at_result_end}
 use Rattle.parse_expr.proofs.Readings.{type_alive}
@@ -54,13 +54,13 @@ end_name w = ended (stage.Name w) (stage.Params w []) (tok what.Open here) refl 
 
 end_type : (w : Word) (xs : List Param) (x : Word) (m : TypeMode) → ReachedType m → DefEnd (stage.Type w xs x m)
 end_type w xs x m r =
-    let a = type_alive heaviest (omega arith) r.0 m r.1 in
+    let a = type_alive greatest_weight (omega arith) r.0 m r.1 in
     ended_by (stage.Type w xs x m) (stage.Closed w (xs ++ (param x (Some a.1) ∷ []))) (a.0 ++ (tok what.Close here ∷ []))
     (type_go w xs x a.1 a.2 (tok what.Close here) (λ ys. stage.Closed w ys) (close_ends w here) m a.0 a.3 refl) (end_closed w (xs ++ (param x (Some a.1) ∷ [])))
 
 end_result : (w : Word) (xs : List Param) (m : TypeMode) → ReachedType m → DefEnd (stage.Result w xs m)
 end_result w xs m r =
-    let a = type_alive heaviest (omega arith) r.0 m r.1 in
+    let a = type_alive greatest_weight (omega arith) r.0 m r.1 in
     ended_by (stage.Result w xs m) (stage.Colon (def_head w xs (Some a.1))) (a.0 ++ (sign mark.Colon here ∷ [])) (result_type_go w xs a.1 a.2 here m a.0 a.3) (end_colon (def_head w xs (Some a.1)))
 
 pub def_alive : (s : DefStage) → LiveDef s → DefEnd s
@@ -99,13 +99,13 @@ def_live (stage.Params w xs) t n l e =
 def_live (stage.Param w xs x) t n l e =
     elim (at_param w xs x t.what n e) [ inl a ↦ moved n (stage.Type w xs x (type_mode.Want [])) a.1 reached_start | inr i ↦ behind_live w (xs ++ (param x None ∷ [])) t.what n i ]
 def_live (stage.Type w xs x m) t n l e =
-    split_option (type_step heaviest m t) (LiveOrDone n)
+    split_option (type_step greatest_weight m t) (LiveOrDone n)
     (λ i. let a = at_param_end w xs x (type_finish m) t.what n (sym (ap (def_type w xs x (type_finish m) (ending_of t.what)) i) ∙ e) in behind_live w (xs ++ (param x (Some (a.0).ann) ∷ [])) t.what n a.2)
     (λ k i. moved n (stage.Type w xs x k) (sym (some_is (sym (ap (def_type w xs x (type_finish m) (ending_of t.what)) i) ∙ e))) (reached_more m k t l i))
 def_live (stage.Closed w xs) t n l e =
     elim (at_closed w xs t.what n e) [ inl a ↦ moved n (stage.Result w xs (type_mode.Want [])) a.1 reached_start | inr a ↦ moved n (stage.Colon (def_head w xs None)) a.1 tt ]
 def_live (stage.Result w xs m) t n l e =
-    split_option (type_step heaviest m t) (LiveOrDone n)
+    split_option (type_step greatest_weight m t) (LiveOrDone n)
     (λ i. let a = at_result_end w xs (type_finish m) t.what n (sym (ap (def_result w xs (type_finish m) (ending_of t.what)) i) ∙ e) in moved n (stage.Colon (def_head w xs (Some (a.0).ann))) (a.2).1 tt)
     (λ k i. moved n (stage.Result w xs k) (sym (some_is (sym (ap (def_result w xs (type_finish m) (ending_of t.what)) i) ∙ e))) (reached_more m k t l i))
 def_live (stage.Colon h) t n l e = moved n (stage.Line h) (at_colon h t.what n e).1 tt

@@ -17,8 +17,8 @@ use Rattle.parse_expr.specs.declared.machine.Mode.{Mode}
 use Rattle.parse_expr.specs.declared.machine.Mode.TheVariants as mode
 use Rattle.parse_expr.specs.declared.machine.TypeMode.{TypeMode}
 use Rattle.parse_expr.specs.declared.machine.Weighed.{Weighed}
-use Rattle.parse_expr.specs.Reading.{step, finish, held}
-use Rattle.parse_expr.specs.TypeReading.{type_step, type_finish}
+use Rattle.parse_expr.specs.computed.Reading.{step, finish, held}
+use Rattle.parse_expr.specs.computed.TypeReading.{type_step, type_finish}
 use Rattle.parse_expr.proofs.Loops.{reads_exprs, reads_types}
 use Rattle.parse_script.specs.declared.stage.Around.{Around}
 use Rattle.parse_script.specs.declared.stage.ClassStage.{ClassStage}
@@ -34,20 +34,20 @@ use Rattle.parse_script.specs.declared.stage.Stage.{Stage}
 use Rattle.parse_script.specs.declared.stage.Stage.TheVariants as stage
 use Rattle.parse_script.specs.declared.stage.Use.{Use}
 use Rattle.parse_script.specs.declared.stage.Use.TheVariants as for_
-use Rattle.parse_script.specs.ClassReading.{class_type, class_step, field_end}
-use Rattle.parse_script.specs.DefReading.{def_type, def_result, def_step, param_end, result_end}
-use Rattle.parse_script.specs.Reading.{added, behind_found, behind_used, inside_next, found_argument, argument_next, plain_found, plain_next, plain_on, plain_held, plain_at, attribute_step, typed_end, typed_next, end_at, class_next, def_next, script_step}
-use Rattle.parse_script.specs.Statements.{heaviest}
+use Rattle.parse_script.specs.computed.ClassReading.{class_type, class_step, field_end}
+use Rattle.parse_script.specs.computed.DefReading.{def_type, def_result, def_step, param_end, result_end}
+use Rattle.parse_script.specs.computed.Reading.{added, behind_found, behind_used, inside_next, found_argument, argument_next, plain_found, plain_next, plain_on, plain_held, plain_at, attribute_step, typed_end, typed_next, end_at, class_next, def_next, script_step}
+use Rattle.mono_syntax.specs.Limits.{greatest_weight}
 
 -- the reading stops, or the script ends
 abbrev pub StopsOrEnds : Option Stage → Type 0
 StopsOrEnds o = (o ≡ None) ⊎ ((is : List Item) × (o ≡ Some (stage.Ended is)))
 
-expr_ends : (m : Mode) (p : Place) → step heaviest m (sign mark.End p) ≡ None
-expr_ends m p = (reads_exprs heaviest).ends m (sign mark.End p) refl
+expr_ends : (m : Mode) (p : Place) → step greatest_weight m (sign mark.End p) ≡ None
+expr_ends m p = (reads_exprs greatest_weight).ends m (sign mark.End p) refl
 
-type_ends : (m : TypeMode) (p : Place) → type_step heaviest m (sign mark.End p) ≡ None
-type_ends m p = (reads_types heaviest).ends m (sign mark.End p) refl
+type_ends : (m : TypeMode) (p : Place) → type_step greatest_weight m (sign mark.End p) ≡ None
+type_ends m p = (reads_types greatest_weight).ends m (sign mark.End p) refl
 
 start_ends : (f : Floor) (k : List Opened) → StopsOrEnds (end_at f k)
 start_ends (floor.Script is) [] = inr (is, refl)
@@ -120,7 +120,7 @@ at_end (stage.Line a) p = inl refl
 at_end (stage.Named a x) p = inl (plain_ends a (mode.Have (held [] (expr.local x) 1)) p)
 at_end (stage.Plain a m) p = inl (plain_ends a m p)
 at_end (stage.Dotted a o w) p = inl refl
-at_end (stage.Target a o w x) p = inl (attribute_ends (nat_lt w heaviest) a o w x p)
+at_end (stage.Target a o w x) p = inl (attribute_ends (nat_lt w greatest_weight) a o w x p)
 at_end (stage.Typed a x m) p = inl (ap (typed_next a x (type_finish m) ending.Other) (type_ends m p) ∙ typed_other a x (type_finish m))
 at_end (stage.Assigning a x) p = inl refl
 at_end (stage.Returning a q) p = inl refl

@@ -9,12 +9,12 @@ use Rattle.mono_syntax.specs.Stmt.{Stmt}
 use Rattle.spelled_tokens.specs.declared.token.Mark.TheVariants as mark
 use Rattle.spelled_tokens.specs.declared.token.Spelled.{Spelled}
 use Rattle.spelled_tokens.specs.SpelledTokens.{sign}
-use Rattle.parse_expr.specs.Goes.{Goes}
+use Rattle.parse_expr.specs.computed.Goes.{Goes}
 use Rattle.parse_expr.proofs.Goes.{same_end, stuck}
 use Rattle.parse_script.specs.declared.stage.Floor.TheVariants as floor
 use Rattle.parse_script.specs.declared.stage.Stage.{Stage}
 use Rattle.parse_script.specs.declared.stage.Stage.TheVariants as stage
-use Rattle.parse_script.specs.Reading.{top, script_step}
+use Rattle.parse_script.specs.computed.Reading.{top, script_step}
 use Rattle.parse_script.specs.Script as sc
 use Rattle.parse_script.specs.Script.{DerivesItem, DerivesItems, DerivesWhole, script, Begins, OneTree}
 use Rattle.parse_script.proofs.Alive.{alive}

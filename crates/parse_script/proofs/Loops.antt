@@ -19,21 +19,21 @@ use Rattle.spelled_tokens.specs.declared.token.What.TheVariants as what
 use Rattle.spelled_tokens.specs.Spelling.{spelling, inside}
 use Rattle.spelled_tokens.specs.SpelledTokens.{spell, all_spelled, what_when}
 use Rattle.spelled_tokens.proofs.LastToken.{last_is_end}
-use Rattle.parse_expr.specs.Goes.{Goes, stay, go}
+use Rattle.parse_expr.specs.computed.Goes.{Goes, stay, go}
 use Rattle.parse_expr.proofs.Goes.{then}
 use Rattle.parse_script.specs.declared.stage.Stage.{Stage}
 use Rattle.parse_script.specs.declared.stage.Stage.TheVariants as stage
 use Rattle.parse_script.specs.declared.stage.Turn.TheVariants as turn
-use Rattle.parse_script.specs.Reading.{script_step, stage_turn, turn_of, IsLightStage}
+use Rattle.parse_script.specs.computed.Reading.{script_step, stage_turn, turn_of, IsLightStage}
 use Rattle.parse_script.specs.Script.{DerivesWhole, DerivesScript, Begins, IsRefusedAt, IsRefused, IsLeft}
 use Rattle.parse_expr.proofs.Readings.{expr_light, type_light}
 use Rattle.parse_script.specs.declared.stage.ClassStage.{ClassStage}
 use Rattle.parse_script.specs.declared.stage.ClassStage.TheVariants as class_stage
 use Rattle.parse_script.specs.declared.stage.DefStage.{DefStage}
 use Rattle.parse_script.specs.declared.stage.DefStage.TheVariants as def_stage
-use Rattle.parse_script.specs.ClassReading.{IsLightClass}
-use Rattle.parse_script.specs.DefReading.{IsLightDef}
-use Rattle.parse_script.specs.Statements.{heaviest}
+use Rattle.parse_script.specs.computed.ClassReading.{IsLightClass}
+use Rattle.parse_script.specs.computed.DefReading.{IsLightDef}
+use Rattle.mono_syntax.specs.Limits.{greatest_weight}
 use Rattle.parse_script.proofs.ClassLive.{LiveClass}
 use Rattle.parse_script.proofs.DefLive.{LiveDef}
 use Rattle.parse_script.proofs.Live.{Live}
@@ -206,19 +206,19 @@ complete_answer text ts (Err Memory) h k s d = refl
 -- ---- the readers inside a stage that is reached have weights that fit
 
 class_light : (m : ClassStage) → LiveClass m → IsLightClass m
-class_light (class_stage.Type w fs x m) l = type_light heaviest l.0 m (omega arith) l.1
+class_light (class_stage.Type w fs x m) l = type_light greatest_weight l.0 m (omega arith) l.1
 class_light m l = tt
 
 def_light : (m : DefStage) → LiveDef m → IsLightDef m
-def_light (def_stage.Type w xs x m) l = type_light heaviest l.0 m (omega arith) l.1
-def_light (def_stage.Result w xs m) l = type_light heaviest l.0 m (omega arith) l.1
+def_light (def_stage.Type w xs x m) l = type_light greatest_weight l.0 m (omega arith) l.1
+def_light (def_stage.Result w xs m) l = type_light greatest_weight l.0 m (omega arith) l.1
 def_light m l = tt
 
 light : (s : Stage) → Live s → IsLightStage s
-light (stage.Plain a m) l = expr_light heaviest l.0 m (omega arith) l.1
-light (stage.Inside a u m) l = expr_light heaviest l.0 m (omega arith) l.1
-light (stage.Argument a k es m) l = expr_light heaviest l.0 m (omega arith) l.1
-light (stage.Typed a x m) l = type_light heaviest l.0 m (omega arith) l.1
+light (stage.Plain a m) l = expr_light greatest_weight l.0 m (omega arith) l.1
+light (stage.Inside a u m) l = expr_light greatest_weight l.0 m (omega arith) l.1
+light (stage.Argument a k es m) l = expr_light greatest_weight l.0 m (omega arith) l.1
+light (stage.Typed a x m) l = type_light greatest_weight l.0 m (omega arith) l.1
 light (stage.Class is m) l = class_light m l
 light (stage.Def is m) l = def_light m l
 light s l = tt

@@ -23,10 +23,10 @@ use Rattle.parse_expr.specs.declared.machine.Mode.{Mode}
 use Rattle.parse_expr.specs.declared.machine.Mode.TheVariants as mode
 use Rattle.parse_expr.specs.declared.machine.TypeMode.{TypeMode}
 use Rattle.parse_expr.specs.declared.machine.TypeMode.TheVariants as type_mode
-use Rattle.parse_expr.specs.Goes.{Goes}
+use Rattle.parse_expr.specs.computed.Goes.{Goes}
 use Rattle.parse_expr.specs.Grammar.{DerivesArgs}
-use Rattle.parse_expr.specs.Reading.{step, finish, held}
-use Rattle.parse_expr.specs.TypeReading.{type_step}
+use Rattle.parse_expr.specs.computed.Reading.{step, finish, held}
+use Rattle.parse_expr.specs.computed.TypeReading.{type_step}
 use Rattle.parse_expr.specs.Types.{word}
 use Rattle.parse_script.specs.declared.stage.Around.{Around}
 use Rattle.parse_script.specs.declared.stage.ClassStage.{ClassStage}
@@ -46,11 +46,12 @@ use Rattle.parse_script.specs.declared.stage.Stage.{Stage}
 use Rattle.parse_script.specs.declared.stage.Stage.TheVariants as stage
 use Rattle.parse_script.specs.declared.stage.Use.{Use}
 use Rattle.parse_script.specs.declared.stage.Use.TheVariants as for_
-use Rattle.parse_script.specs.ClassReading.{class_step}
-use Rattle.parse_script.specs.DefReading.{def_step}
+use Rattle.parse_script.specs.computed.ClassReading.{class_step}
+use Rattle.parse_script.specs.computed.DefReading.{def_step}
 use Rattle.parse_script.specs.Definitions.{DerivesClass, DerivesDef}
-use Rattle.parse_script.specs.Reading.{around, top, is_def, floor_depth, added_to, added, entered, func_def}
-use Rattle.parse_script.specs.Statements.{heaviest, branch, DerivesStmt, DerivesTail}
+use Rattle.parse_script.specs.computed.Reading.{around, top, is_def, floor_depth, added_to, added, entered, func_def}
+use Rattle.mono_syntax.specs.Limits.{greatest_weight}
+use Rattle.parse_script.specs.Statements.{branch, DerivesStmt, DerivesTail}
 
 mutual
   -- where a statement may begin
@@ -111,7 +112,7 @@ pub record NextName (P : Word → List Spelled → Type 0) (ts : List Spelled) :
 
 -- the reading of an expression goes on over these tokens, and gives this one
 abbrev pub Ends : Mode → List Spelled → Expr → Type 0
-Ends m us e = (n : Mode) × Goes (step heaviest) m us n × (finish n ≡ Some e)
+Ends m us e = (n : Mode) × Goes (step greatest_weight) m us n × (finish n ≡ Some e)
 
 -- an expression is read to its end, and then come these tokens
 pub record NextExpr (m : Mode) (P : Expr → List Spelled → Type 0) (ts : List Spelled) : Type 0 where
@@ -128,7 +129,7 @@ pub record NextType (m : TypeMode) (P : Ann → List Spelled → Type 0) (ts : L
   pub more : List Spelled
   pub tree : Ann
   pub weight : ℕ
-  pub goes : Goes (type_step heaviest) m part (type_mode.Have [] tree weight)
+  pub goes : Goes (type_step greatest_weight) m part (type_mode.Have [] tree weight)
   pub split : ts ≡ part ++ more
   pub rest : P tree more
 
@@ -169,7 +170,7 @@ pub record RestListing (a : Around) (l : Listed) (es : List Expr) (ts : List Spe
   pub place : Place
   pub more : List Spelled
   pub derives : DerivesArgs part weight args
-  pub light : weight ≤ heaviest
+  pub light : weight ≤ greatest_weight
   pub split : ts ≡ part ++ (tok what.Close place ∷ more)
   pub rest : RestListed a l (es ++ args) more all
 
@@ -187,8 +188,8 @@ pub record RestTarget (a : Around) (m : Mode) (ts : List Spelled) (all : List It
   pub more : List Spelled
   pub tree : Expr
   pub weight : ℕ
-  pub goes : Goes (step heaviest) m part (mode.Have (held [] tree weight))
-  pub light : weight ≤ heaviest
+  pub goes : Goes (step greatest_weight) m part (mode.Have (held [] tree weight))
+  pub light : weight ≤ greatest_weight
   pub split : ts ≡ part ++ more
   pub rest : Next what.Dot (λ p us. NextName (λ x vs. RestValue a tree x vs all) us) more
 
@@ -196,7 +197,7 @@ abbrev pub RestPlain : Around → Mode → List Spelled → List Item → Type 0
 RestPlain a m ts all = NextExpr m (λ e us. RestLine a (stmt.plain e) us all) ts ⊎ RestTarget a m ts all
 
 abbrev pub RestAttribute : Around → Expr → ℕ → Word → List Spelled → List Item → Type 0
-RestAttribute a o w x ts all = RestValue a o x ts all ⊎ ((w < heaviest) × RestPlain a (mode.Have (held [] (expr.read o x) (suc w))) ts all)
+RestAttribute a o w x ts all = RestValue a o x ts all ⊎ ((w < greatest_weight) × RestPlain a (mode.Have (held [] (expr.read o x) (suc w))) ts all)
 
 abbrev pub RestStarted : Around → Word → List Spelled → List Item → Type 0
 RestStarted a x ts all = Next what.Open (λ p us. RestListing a (listed.Start x p) [] us all) ts

@@ -9,8 +9,8 @@ use Rattle.parse_expr.specs.declared.machine.Next.TheVariants as next
 use Rattle.parse_expr.specs.declared.machine.TypeMode.{TypeMode}
 use Rattle.parse_expr.specs.declared.machine.TypeNext.TheVariants as type_next
 use Rattle.parse_expr.specs.declared.machine.Weighed.{Weighed}
-use Rattle.parse_expr.specs.Reading.{next_of}
-use Rattle.parse_expr.specs.TypeReading as reading
+use Rattle.parse_expr.specs.computed.Reading.{next_of}
+use Rattle.parse_expr.specs.computed.TypeReading as reading
 use Rattle.parse_expr.proofs.Loops.{go_is, stop_is, type_go_is, type_stop_is}
 use Rattle.parse_script.specs.declared.stage.Around.{Around}
 use Rattle.mono_syntax.specs.declared.tree.Item.{Item}
@@ -25,9 +25,9 @@ use Rattle.parse_script.specs.declared.stage.Ending.{Ending}
 use Rattle.parse_script.specs.declared.stage.Stage.TheVariants as stage
 use Rattle.parse_script.specs.declared.stage.Turn.TheVariants as turn
 use Rattle.parse_script.specs.declared.stage.Use.{Use}
-use Rattle.parse_script.specs.ClassReading.{field_end, class_type, class_turn}
-use Rattle.parse_script.specs.DefReading.{param_end, def_type, result_end, def_result, def_turn}
-use Rattle.parse_script.specs.Reading.{behind_found, inside_next, found_argument, argument_next, plain_found, plain_next, typed_end, typed_next, class_stage_of, class_next, def_stage_of, def_next, turn_of}
+use Rattle.parse_script.specs.computed.ClassReading.{field_end, class_type, class_turn}
+use Rattle.parse_script.specs.computed.DefReading.{param_end, def_type, result_end, def_result, def_turn}
+use Rattle.parse_script.specs.computed.Reading.{behind_found, inside_next, found_argument, argument_next, plain_found, plain_next, typed_end, typed_next, class_stage_of, class_next, def_stage_of, def_next, turn_of}
 
 pub if_at : {A E : Type 0} (r : Result A E) (x y : A) → x ≡ y → IfOk r (λ n. n ≡ x) → IfOk r (λ n. n ≡ y)
 if_at r x y e h = subst (λ z. IfOk r (λ n. n ≡ z)) e h

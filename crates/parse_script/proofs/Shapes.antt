@@ -32,12 +32,13 @@ use Rattle.parse_script.specs.Script as sc
 use Rattle.parse_script.specs.Script.{DerivesItems, DerivesScript}
 use Rattle.parse_script.specs.Shapes.{IsShapedExpr, AreShapedExprs, IsShapedStmt, IsShapedBlock, AreShapedBranches, IsShapedElse, AreShapedItems, IsShaped}
 use Rattle.parse_script.specs.Statements as st
-use Rattle.parse_script.specs.Statements.{heaviest, DerivesStmt, DerivesTail, DerivesBlock, DerivesStmts}
+use Rattle.mono_syntax.specs.Limits.{greatest_integer, greatest_weight}
+use Rattle.parse_script.specs.Statements.{DerivesStmt, DerivesTail, DerivesBlock, DerivesStmts}
 
 -- ---- all number tokens fit
 
 abbrev Fits : What → Type 0
-Fits (what.Number n) = n ≤ 140737488355327
+Fits (what.Number n) = n ≤ greatest_integer
 Fits _ = Unit {0}
 
 abbrev AllFit : List Spelled → Type 0
@@ -52,12 +53,12 @@ back : (xs ys : List Spelled) → AllFit (xs ++ ys) → AllFit ys
 back [] ys h = h
 back (x ∷ xs) ys h = back xs ys h.1
 
-number_small : (cs : List ℕ) (n : ℕ) → number_of cs ≡ Some n → n ≤ 140737488355327
+number_small : (cs : List ℕ) (n : ℕ) → number_of cs ≡ Some n → n ≤ greatest_integer
 unfolding number_of
 number_small cs n e =
-    split (is_numeral cs && nat_le (digits_value cs) 140737488355327) (λ b. cond {A = Option ℕ} b (Some (digits_value cs)) None ≡ Some n → n ≤ 140737488355327)
-    (λ t k. rw (← some_is k) (leb-true (digits_value cs) 140737488355327 (and_parts (is_numeral cs) (nat_le (digits_value cs) 140737488355327) t).1))
-    (λ _ k. none_some (n ≤ 140737488355327) k) e
+    split (is_numeral cs && nat_le (digits_value cs) greatest_integer) (λ b. cond {A = Option ℕ} b (Some (digits_value cs)) None ≡ Some n → n ≤ greatest_integer)
+    (λ t k. rw (← some_is k) (leb-true (digits_value cs) greatest_integer (and_parts (is_numeral cs) (nat_le (digits_value cs) greatest_integer) t).1))
+    (λ _ k. none_some (n ≤ greatest_integer) k) e
 
 number_fits : (cs : List ℕ) (o : Option ℕ) → number_of cs ≡ o → Fits (number_when o)
 number_fits cs None e = tt
@@ -184,18 +185,18 @@ mutual
   stmt_shaped : {i : Bool} {d : ℕ} {ts : List Spelled} {s : stmt.Stmt} → DerivesStmt i d ts s → AllFit ts → IsShapedStmt s
   stmt_shaped (st.pass d p q) h = tt
   stmt_shaped (st.give_none d p q i) h = tt
-  stmt_shaped (st.give d p q ts e i k) h = whole_shaped heaviest ts e k (front ts _ h.1)
+  stmt_shaped (st.give d p q ts e i k) h = whole_shaped greatest_weight ts e k (front ts _ h.1)
   stmt_shaped (st.print d p q r s ts w es k l) h = args_shaped k (front ts _ h.1.1)
-  stmt_shaped (st.assign d p q r x ts e k) h = whole_shaped heaviest ts e k (front ts _ h.1.1)
-  stmt_shaped (st.declare d p q r s x us a ts e t k) h = whole_shaped heaviest ts e k (front ts _ (back us _ h.1.1).1)
-  stmt_shaped (st.write d p q r s x us w o ts e k l m) h = (expr_shaped k (front us _ h), whole_shaped heaviest ts e m (front ts _ (back us _ h).1.1.1))
+  stmt_shaped (st.assign d p q r x ts e k) h = whole_shaped greatest_weight ts e k (front ts _ h.1.1)
+  stmt_shaped (st.declare d p q r s x us a ts e t k) h = whole_shaped greatest_weight ts e k (front ts _ (back us _ h.1.1).1)
+  stmt_shaped (st.write d p q r s x us w o ts e k l m) h = (expr_shaped k (front us _ h), whole_shaped greatest_weight ts e m (front ts _ (back us _ h).1.1.1))
   stmt_shaped (st.start d p q r s t u x ts w e es k l) h = args_shaped k (front ts _ h.1.1.1.1)
-  stmt_shaped (st.plain d q ts e k) h = whole_shaped heaviest ts e k (front ts _ h)
+  stmt_shaped (st.plain d q ts e k) h = whole_shaped greatest_weight ts e k (front ts _ h)
   stmt_shaped (st.if_any d p q ts e us ss vs bs el l k b t) h =
       let rest = (back ts _ h.1).1 in
       let tail = tail_shaped t (back us vs rest) in
-      (tt, (whole_shaped heaviest ts e k (front ts _ h.1), block_shaped b (front us vs rest), tail.0), tail.1)
-  stmt_shaped (st.while d p q ts e us ss l k b) h = (whole_shaped heaviest ts e k (front ts _ h.1), block_shaped b (back ts _ h.1).1)
+      (tt, (whole_shaped greatest_weight ts e k (front ts _ h.1), block_shaped b (front us vs rest), tail.0), tail.1)
+  stmt_shaped (st.while d p q ts e us ss l k b) h = (whole_shaped greatest_weight ts e k (front ts _ h.1), block_shaped b (back ts _ h.1).1)
 
   tail_shaped : {i : Bool} {d : ℕ} {ts : List Spelled} {bs : List Branch} {el : stmt.Else} → DerivesTail i d ts bs el → AllFit ts
       → AreShapedBranches (branches bs) × IsShapedElse el
@@ -203,7 +204,7 @@ mutual
   tail_shaped (st.elif d p q ts e us ss vs bs el k b t) h =
       let rest = (back ts _ h.1).1 in
       let tail = tail_shaped t (back us vs rest) in
-      ((whole_shaped heaviest ts e k (front ts _ h.1), block_shaped b (front us vs rest), tail.0), tail.1)
+      ((whole_shaped greatest_weight ts e k (front ts _ h.1), block_shaped b (front us vs rest), tail.0), tail.1)
   tail_shaped (st.otherwise d p q us ss b) h = (tt, block_shaped b h.1.1)
 
   block_shaped : {i : Bool} {d : ℕ} {ts : List Spelled} {ss : List stmt.Stmt} → DerivesBlock i d ts ss → AllFit ts → IsShapedBlock (block ss)

@@ -17,7 +17,7 @@ use Rattle.spelled_tokens.specs.SpelledTokens.{tok, sign}
 use Rattle.parse_expr.specs.declared.machine.Mode.{Mode}
 use Rattle.parse_expr.specs.declared.machine.Mode.TheVariants as mode
 use Rattle.parse_expr.specs.declared.machine.TypeMode.{TypeMode}
-use Rattle.parse_expr.specs.Goes.{Goes, stay, go}
+use Rattle.parse_expr.specs.computed.Goes.{Goes, stay, go}
 use Rattle.parse_expr.proofs.Goes.{goes_nil, goes_cons}
 use Rattle.parse_script.specs.declared.stage.Around.{Around}
 use Rattle.parse_script.specs.declared.stage.ClassStage.{ClassStage}
@@ -34,9 +34,9 @@ use Rattle.parse_script.specs.declared.stage.Stage.{Stage}
 use Rattle.parse_script.specs.declared.stage.Stage.TheVariants as stage
 use Rattle.parse_script.specs.declared.stage.Use.{Use}
 use Rattle.parse_script.specs.declared.stage.Use.TheVariants as for_
-use Rattle.parse_script.specs.ClassReading.{class_step}
-use Rattle.parse_script.specs.DefReading.{def_step}
-use Rattle.parse_script.specs.Reading.{around, top, entered, line_step, head_colon, head_line, head_block, print_word, start_word, class_stage_of, class_next, def_stage_of, def_next, script_step}
+use Rattle.parse_script.specs.computed.ClassReading.{class_step}
+use Rattle.parse_script.specs.computed.DefReading.{def_step}
+use Rattle.parse_script.specs.computed.Reading.{around, top, entered, line_step, head_colon, head_line, head_block, print_word, start_word, class_stage_of, class_next, def_stage_of, def_next, script_step}
 use Rattle.parse_script.proofs.Ahead.{On, unnext, inside_on, argument_on, listing_on}
 use Rattle.parse_script.proofs.AheadPlain.{plain_ahead, dotted_ahead, target_ahead, named_ahead, typed_ahead, assigning_ahead, returning_ahead}
 use Rattle.parse_script.proofs.AheadStart.{start_on, behind_on}

@@ -6,7 +6,7 @@ use Rattle.spelled_tokens.specs.declared.token.Mark.TheVariants as mark
 use Rattle.spelled_tokens.specs.declared.token.Spelled.{Spelled}
 use Rattle.spelled_tokens.specs.declared.token.What.{What}
 use Rattle.spelled_tokens.specs.declared.token.What.TheVariants as what
-use Rattle.parse_expr.specs.Goes.{Goes, stay, go}
+use Rattle.parse_expr.specs.computed.Goes.{Goes, stay, go}
 use Rattle.parse_script.specs.declared.stage.Around.{Around}
 use Rattle.parse_script.specs.declared.stage.ClassStage.{ClassStage}
 use Rattle.parse_script.specs.declared.stage.ClassStage.TheVariants as class_stage
@@ -16,9 +16,9 @@ use Rattle.parse_script.specs.declared.stage.Head.{Head}
 use Rattle.parse_script.specs.declared.stage.Listed.TheVariants as listed
 use Rattle.parse_script.specs.declared.stage.Stage.{Stage}
 use Rattle.parse_script.specs.declared.stage.Stage.TheVariants as stage
-use Rattle.parse_script.specs.ClassReading.{class_step}
-use Rattle.parse_script.specs.DefReading.{def_step}
-use Rattle.parse_script.specs.Reading.{entered, line_step, head_colon, head_line, head_block, print_word, start_word, class_stage_of, class_next, def_stage_of, def_next, script_step}
+use Rattle.parse_script.specs.computed.ClassReading.{class_step}
+use Rattle.parse_script.specs.computed.DefReading.{def_step}
+use Rattle.parse_script.specs.computed.Reading.{entered, line_step, head_colon, head_line, head_block, print_word, start_word, class_stage_of, class_next, def_stage_of, def_next, script_step}
 use Rattle.parse_script.proofs.Back.{Sound, sound_at, next_is, inside_sound, plain_sound, dotted_sound, target_sound, named_sound, typed_sound, assigning_sound, returning_sound, argument_sound, listing_sound}
 use Rattle.parse_script.proofs.BackStart.{start_sound, behind_sound}
 use Rattle.parse_script.proofs.ClassLive.{LiveClass, class_live}

@@ -4,13 +4,13 @@ use Rattle.mono_syntax.specs.declared.leaf.Place.{Place}
 use Rattle.parse_expr.specs.declared.machine.TypeMode.{TypeMode}
 use Rattle.parse_expr.specs.declared.machine.TypeMode.TheVariants as type_mode
 use Rattle.parse_expr.specs.declared.machine.Weighed.{Weighed}
-use Rattle.parse_expr.specs.Goes.{Goes, stay, go}
-use Rattle.parse_expr.specs.Reading.{step}
-use Rattle.parse_expr.specs.TypeReading.{type_step, type_finish}
+use Rattle.parse_expr.specs.computed.Goes.{Goes, stay, go}
+use Rattle.parse_expr.specs.computed.Reading.{step}
+use Rattle.parse_expr.specs.computed.TypeReading.{type_step, type_finish}
 use Rattle.parse_expr.specs.declared.machine.Mode.{Mode}
 use Rattle.parse_expr.specs.declared.machine.Mode.TheVariants as mode
 use Rattle.parse_expr.proofs.Goes.{then}
-use Rattle.parse_script.specs.Statements.{heaviest}
+use Rattle.mono_syntax.specs.Limits.{greatest_weight}
 use Rattle.spelled_tokens.specs.declared.token.Spelled.{Spelled}
 
 -- a place, where any will do
@@ -56,19 +56,19 @@ one step s n t e = go s n n t [] e (stay n)
 -- ---- states of the readers of types and expressions that are reached
 
 abbrev pub ReachedType : TypeMode → Type 0
-ReachedType m = (ts : List Spelled) × Goes (type_step heaviest) (type_mode.Want []) ts m
+ReachedType m = (ts : List Spelled) × Goes (type_step greatest_weight) (type_mode.Want []) ts m
 
 pub reached_start : ReachedType (type_mode.Want [])
 reached_start = ([], stay (type_mode.Want []))
 
-pub reached_more : (m n : TypeMode) (t : Spelled) → ReachedType m → type_step heaviest m t ≡ Some n → ReachedType n
-reached_more m n t r e = (r.0 ++ (t ∷ []), then (type_step heaviest) (type_mode.Want []) m n r.0 (t ∷ []) r.1 (one (type_step heaviest) m n t e))
+pub reached_more : (m n : TypeMode) (t : Spelled) → ReachedType m → type_step greatest_weight m t ≡ Some n → ReachedType n
+reached_more m n t r e = (r.0 ++ (t ∷ []), then (type_step greatest_weight) (type_mode.Want []) m n r.0 (t ∷ []) r.1 (one (type_step greatest_weight) m n t e))
 
 abbrev pub Reached : Mode → Type 0
-Reached m = (ts : List Spelled) × Goes (step heaviest) (mode.Want []) ts m
+Reached m = (ts : List Spelled) × Goes (step greatest_weight) (mode.Want []) ts m
 
 pub begins : Reached (mode.Want [])
 begins = ([], stay (mode.Want []))
 
-pub goes_on : (m n : Mode) (t : Spelled) → Reached m → step heaviest m t ≡ Some n → Reached n
-goes_on m n t r e = (r.0 ++ (t ∷ []), then (step heaviest) (mode.Want []) m n r.0 (t ∷ []) r.1 (one (step heaviest) m n t e))
+pub goes_on : (m n : Mode) (t : Spelled) → Reached m → step greatest_weight m t ≡ Some n → Reached n
+goes_on m n t r e = (r.0 ++ (t ∷ []), then (step greatest_weight) (mode.Want []) m n r.0 (t ∷ []) r.1 (one (step greatest_weight) m n t e))

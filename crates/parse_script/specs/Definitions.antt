@@ -12,11 +12,12 @@ use Rattle.spelled_tokens.specs.declared.token.Mark.TheVariants as mark
 use Rattle.spelled_tokens.specs.declared.token.Spelled.{Spelled}
 use Rattle.spelled_tokens.specs.declared.token.What.TheVariants as what
 use Rattle.spelled_tokens.specs.SpelledTokens.{tok, sign}
-use Rattle.parse_script.specs.Statements.{heaviest, DerivesBlock}
+use Rattle.mono_syntax.specs.Limits.{greatest_weight}
+use Rattle.parse_script.specs.Statements.{DerivesBlock}
 
 -- a field: its name and its type
 pub data DerivesField : List Spelled → FieldDef → Type 0 where
-  field : (p q r : Place) (x : List ℕ) (ts : List Spelled) (a : Ann) → IsType heaviest ts a
+  field : (p q r : Place) (x : List ℕ) (ts : List Spelled) (a : Ann) → IsType greatest_weight ts a
       → DerivesField (tok (what.Name x) p ∷ sign mark.Colon q ∷ (ts ++ (sign mark.Newline r ∷ []))) (record { name = word x p; ann = a })
 
 -- one or more fields
@@ -36,7 +37,7 @@ pub data DerivesClass : List Spelled → ClassDef → Type 0 where
 -- a parameter, with its type or without
 pub data DerivesParam : List Spelled → Param → Type 0 where
   bare : (p : Place) (x : List ℕ) → DerivesParam (tok (what.Name x) p ∷ []) (record { name = word x p; ann = None })
-  typed : (p q : Place) (x : List ℕ) (ts : List Spelled) (a : Ann) → IsType heaviest ts a
+  typed : (p q : Place) (x : List ℕ) (ts : List Spelled) (a : Ann) → IsType greatest_weight ts a
       → DerivesParam (tok (what.Name x) p ∷ sign mark.Colon q ∷ ts) (record { name = word x p; ann = Some a })
 
 -- any number of parameters with commas between, and maybe one behind the last
@@ -49,7 +50,7 @@ pub data DerivesParams : List Spelled → List Param → Type 0 where
 -- the type of a function's result, or none
 pub data DerivesResult : List Spelled → Option Ann → Type 0 where
   no_result : DerivesResult [] None
-  result : (p : Place) (ts : List Spelled) (a : Ann) → IsType heaviest ts a → DerivesResult (sign mark.Arrow p ∷ ts) (Some a)
+  result : (p : Place) (ts : List Spelled) (a : Ann) → IsType greatest_weight ts a → DerivesResult (sign mark.Arrow p ∷ ts) (Some a)
 
 -- a function, whose body is a block of its own
 pub data DerivesDef : List Spelled → FuncDef → Type 0 where

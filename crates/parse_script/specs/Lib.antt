@@ -1,8 +1,12 @@
+-- ---- the rules
+
+-- the grammar of statements
 pub mod Statements
+-- the grammar of classes and functions
 pub mod Definitions
+-- the grammar of scripts, and how tokens are refused that have no tree
 pub mod Script
-pub mod Endings
+-- the shape of the trees that the grammar gives
 pub mod Shapes
-pub mod ClassReading
-pub mod DefReading
-pub mod Reading
+-- ---- what the code computes
+pub mod computed

@@ -1,5 +1,6 @@
 -- The shape of the trees that the grammar gives: each integer literal fits, and each `if` has a branch.
 use Rattle.std.specs.Prelude.{◌≤◌, List, [], ◌∷◌, Some, None}
+use Rattle.mono_syntax.specs.Limits.{greatest_integer}
 use Rattle.mono_syntax.specs.declared.tree.Item.{Item}
 use Rattle.mono_syntax.specs.declared.tree.Item.TheVariants as item
 use Rattle.mono_syntax.specs.declared.tree.Script.{Script}
@@ -10,7 +11,7 @@ use Rattle.mono_syntax.specs.StmtView.{block}
 abbrev mutual
   pub IsShapedExpr : Expr → Type 0
   IsShapedExpr (local w) = Unit {0}
-  IsShapedExpr (number p n) = n ≤ 140737488355327
+  IsShapedExpr (number p n) = n ≤ greatest_integer
   IsShapedExpr (text p t) = Unit {0}
   IsShapedExpr (truth p b) = Unit {0}
   IsShapedExpr (nil p) = Unit {0}

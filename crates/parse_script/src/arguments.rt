@@ -1,13 +1,13 @@
 ghost use Rattle.std.specs.Prelude.{◌≡◌, [], ◌∷◌, ◌++◌, IfOk};
-ghost use Rattle.parse_expr.specs.Reading.{IsLightMode};
-ghost use Rattle.parse_script.specs.Reading.{added, listed_stage, behind_argument, found_argument, argument_step, listing_step, print_word, start_word, turn_of};
+ghost use Rattle.parse_expr.specs.computed.Reading.{IsLightMode};
+ghost use Rattle.parse_script.specs.computed.Reading.{added, listed_stage, behind_argument, found_argument, argument_step, listing_step, print_word, start_word, turn_of};
 
 use crate::around::added;
 use crate::ending::ending_of;
 use crate::stage::{Around, Ending, Listed, Stage, Turn};
 use mono_list::Stack;
-use mono_syntax::{Expr, Place, Stmt, StmtKind, Word};
-use parse_expr::{Mode, Next, step};
+use mono_syntax::{Expr, GREATEST_WEIGHT, Place, Stmt, StmtKind, Word};
+use parse_expr::machine::{Mode, Next, step};
 use spelled_tokens::{Spelled, What};
 use sqlite_items::Items;
 use std::alloc::{AllocError, Global};
@@ -104,7 +104,7 @@ pub fn argument_step(
     ensures { IfOk result (λ n. n ≡ turn_of (argument_step around listed args mode token)) }
 {
     let ending = ending_of(&token.what);
-    match step(alloc, 100, mode, token)? {
+    match step(alloc, GREATEST_WEIGHT as usize, mode, token)? {
         Next::Go(mode) => Ok(Turn::Go(Stage::Argument(around, listed, args, mode))),
         Next::Stop(found) => found_argument(alloc, around, listed, args, found, ending),
     }

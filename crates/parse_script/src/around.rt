@@ -1,10 +1,10 @@
 ghost use Rattle.std.specs.Prelude.{◌≡◌, ◌≤◌, [], ◌∷◌, ◌++◌, nat_lt, IfOk};
-ghost use Rattle.parse_script.specs.Reading.{top, is_def, floor_depth, depth, added_to, added, added_stage, entered, left_block, left, outermost, end_at, class_at, def_at, turn_of};
-ghost use Rattle.parse_script.specs.Statements.{deepest};
+ghost use Rattle.parse_script.specs.computed.Reading.{top, is_def, floor_depth, depth, added_to, added, added_stage, entered, left_block, left, outermost, end_at, class_at, def_at, turn_of};
+ghost use Rattle.mono_syntax.specs.Limits.{most_blocks};
 
 use crate::stage::{Around, ClassStage, DefHead, DefStage, Floor, Head, Opened, Stage, Turn};
 use mono_list::Stack;
-use mono_syntax::{Branch, FuncDef, Item, Stmt, StmtKind};
+use mono_syntax::{Branch, FuncDef, Item, MOST_BLOCKS, Stmt, StmtKind};
 use sqlite_items::Items;
 use std::alloc::{AllocError, Global};
 
@@ -38,11 +38,11 @@ fn floor_depth(floor: &Floor) -> usize
 
 /// Whether another block may stand here.
 pub fn has_room(around: &Around) -> bool
-    ensures { result ≡ nat_lt (depth around.now) deepest }
+    ensures { result ≡ nat_lt (depth around.now) most_blocks }
 {
     let floor = floor_depth(&around.floor);
     let opened = around.opened.len();
-    opened < 50 && opened + floor < 50
+    opened < MOST_BLOCKS && opened + floor < MOST_BLOCKS
 }
 
 /// Behind one more statement of the outermost block.

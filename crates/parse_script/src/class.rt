@@ -1,12 +1,12 @@
 ghost use Rattle.std.specs.Prelude.{◌≡◌, IfOk};
-ghost use Rattle.parse_expr.specs.TypeReading.{IsLightType};
-ghost use Rattle.parse_script.specs.ClassReading.{class_word, class_name, class_colon, class_line, class_body, class_pass, class_pass_line, class_field, field_end, class_fields, class_step, class_turn, IsLightClass};
+ghost use Rattle.parse_expr.specs.computed.TypeReading.{IsLightType};
+ghost use Rattle.parse_script.specs.computed.ClassReading.{class_word, class_name, class_colon, class_line, class_body, class_pass, class_pass_line, class_field, field_end, class_fields, class_step, class_turn, IsLightClass};
 
 use crate::ending::ending_of;
 use crate::stage::{ClassStage, ClassTurn, Ending};
 use mono_list::Stack;
-use mono_syntax::{ClassDef, FieldDef, Place, Word};
-use parse_expr::{TypeMode, TypeNext, Weighed, type_step};
+use mono_syntax::{ClassDef, FieldDef, GREATEST_WEIGHT, Place, Word};
+use parse_expr::machine::{TypeMode, TypeNext, Weighed, type_step};
 use spelled_tokens::{Mark, Spelled, What};
 use sqlite_items::Items;
 use std::alloc::{AllocError, Global};
@@ -137,7 +137,7 @@ fn class_type(
     ensures { IfOk result (λ n. n ≡ class_turn (class_step (ClassStage.Type name fields field mode) token)) }
 {
     let ending = ending_of(&token.what);
-    match type_step(alloc, 100, mode, token)? {
+    match type_step(alloc, GREATEST_WEIGHT as usize, mode, token)? {
         TypeNext::Go(mode) => Ok(ClassTurn::Go(ClassStage::Type(name, fields, field, mode))),
         TypeNext::Stop(found) => field_end(name, fields, field, found, ending),
     }

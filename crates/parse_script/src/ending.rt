@@ -1,5 +1,5 @@
 ghost use Rattle.std.specs.Prelude.{◌≡◌};
-ghost use Rattle.parse_script.specs.Endings.{mark_ending, ending_of};
+ghost use Rattle.parse_script.specs.computed.Endings.{mark_ending, ending_of};
 
 use crate::stage::Ending;
 use spelled_tokens::{Mark, What};

@@ -1,16 +1,16 @@
 ghost use Rattle.std.specs.Prelude.{◌≡◌, ◌<◌, suc, [], IfOk, nat_lt};
 ghost use Rattle.mono_syntax.specs.Expr.{local, read};
-ghost use Rattle.parse_expr.specs.Reading.{held, step, finish, IsLightMode};
-ghost use Rattle.parse_expr.specs.TypeReading.{IsLightType};
-ghost use Rattle.parse_script.specs.Reading.{inside, is_newline, ended_line, ended_head, behind_used, behind_found, inside_step, plain_found, plain_on, plain_held, plain_step, dotted_step, attribute_step, target_step, named_step, assigning_step, typed_end, typed_step, returning_step, turn_of};
-ghost use Rattle.parse_script.specs.Statements.{heaviest};
+ghost use Rattle.parse_expr.specs.computed.Reading.{held, step, finish, IsLightMode};
+ghost use Rattle.parse_expr.specs.computed.TypeReading.{IsLightType};
+ghost use Rattle.parse_script.specs.computed.Reading.{inside, is_newline, ended_line, ended_head, behind_used, behind_found, inside_step, plain_found, plain_on, plain_held, plain_step, dotted_step, attribute_step, target_step, named_step, assigning_step, typed_end, typed_step, returning_step, turn_of};
+ghost use Rattle.mono_syntax.specs.Limits.{greatest_weight};
 
 use crate::around::{added, added_turn};
 use crate::ending::ending_of;
 use crate::stage::{Around, Ending, Head, Stage, Turn, Use};
 use mono_list::Stack;
-use mono_syntax::{Expr, ExprKind, Place, Stmt, StmtKind, Word};
-use parse_expr::{Held, Mode, Next, TypeMode, TypeNext, Weighed, step, type_step};
+use mono_syntax::{Expr, ExprKind, GREATEST_WEIGHT, Place, Stmt, StmtKind, Word};
+use parse_expr::machine::{Held, Mode, Next, TypeMode, TypeNext, Weighed, step, type_step};
 use spelled_tokens::{Spelled, What};
 use sqlite_items::Boxed;
 use std::alloc::{AllocError, Global};
@@ -105,7 +105,7 @@ pub fn inside_step(
     ensures { IfOk result (λ n. n ≡ turn_of (inside_step around use_ mode token)) }
 {
     let ending = ending_of(&token.what);
-    match step(alloc, 100, mode, token)? {
+    match step(alloc, GREATEST_WEIGHT as usize, mode, token)? {
         Next::Go(mode) => Ok(Turn::Go(Stage::Inside(around, use_, mode))),
         Next::Stop(found) => behind_found(alloc, around, use_, found, ending),
     }
@@ -142,7 +142,7 @@ pub fn plain_on(
     ensures { IfOk result (λ n. n ≡ turn_of (plain_on around mode token)) }
 {
     let ending = ending_of(&token.what);
-    match step(alloc, 100, mode, token)? {
+    match step(alloc, GREATEST_WEIGHT as usize, mode, token)? {
         Next::Go(mode) => Ok(Turn::Go(Stage::Plain(around, mode))),
         Next::Stop(found) => plain_found(alloc, around, found, ending),
     }
@@ -192,7 +192,7 @@ pub fn dotted_step(around: Around, receiver: Expr, weight: u32, place: Place, wh
 
 /// An attribute that was read.
 fn attribute(alloc: Global, receiver: Expr, weight: u32, name: Word) -> Result<Held, AllocError>
-    requires { weight < 100 }
+    requires { weight < greatest_weight }
     ensures { IfOk result (λ h. h ≡ held [] (read receiver name) (suc weight)) }
 {
     let part = Boxed::new(alloc, receiver)?;
@@ -213,7 +213,7 @@ fn attribute_on(
     name: Word,
     token: Spelled,
 ) -> Result<Turn, AllocError>
-    requires { weight < 100 }
+    requires { weight < greatest_weight }
     ensures { IfOk result (λ n. n ≡ turn_of (plain_step around (Mode.Have (held [] (read receiver name) (suc weight))) token)) }
 {
     let held = attribute(alloc, receiver, weight, name)?;
@@ -229,9 +229,9 @@ fn attribute_step(
     name: Word,
     token: Spelled,
 ) -> Result<Turn, AllocError>
-    ensures { IfOk result (λ n. n ≡ turn_of (attribute_step (nat_lt weight heaviest) around receiver weight name token)) }
+    ensures { IfOk result (λ n. n ≡ turn_of (attribute_step (nat_lt weight greatest_weight) around receiver weight name token)) }
 {
-    if weight < 100 {
+    if weight < GREATEST_WEIGHT {
         attribute_on(alloc, around, receiver, weight, name, token)
     } else {
         Ok(Turn::Stop)
@@ -317,7 +317,7 @@ pub fn typed_step(
     ensures { IfOk result (λ n. n ≡ turn_of (typed_step around name mode token)) }
 {
     let ending = ending_of(&token.what);
-    match type_step(alloc, 100, mode, token)? {
+    match type_step(alloc, GREATEST_WEIGHT as usize, mode, token)? {
         TypeNext::Go(mode) => Ok(Turn::Go(Stage::Typed(around, name, mode))),
         TypeNext::Stop(found) => Ok(typed_end(alloc, around, name, found, ending)),
     }

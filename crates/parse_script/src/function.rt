@@ -1,12 +1,12 @@
 ghost use Rattle.std.specs.Prelude.{◌≡◌, [], ◌∷◌, ◌++◌, Some, None, IfOk};
-ghost use Rattle.parse_expr.specs.TypeReading.{IsLightType};
-ghost use Rattle.parse_script.specs.DefReading.{def_word, def_name, def_params, behind_param, def_param, param_end, def_closed, result_end, def_colon, def_line, def_step, def_turn, IsLightDef};
+ghost use Rattle.parse_expr.specs.computed.TypeReading.{IsLightType};
+ghost use Rattle.parse_script.specs.computed.DefReading.{def_word, def_name, def_params, behind_param, def_param, param_end, def_closed, result_end, def_colon, def_line, def_step, def_turn, IsLightDef};
 
 use crate::ending::ending_of;
 use crate::stage::{DefHead, DefStage, DefTurn, Ending};
 use mono_list::Stack;
-use mono_syntax::{Ann, Param, Place, Word};
-use parse_expr::{TypeMode, TypeNext, Weighed, type_step};
+use mono_syntax::{Ann, GREATEST_WEIGHT, Param, Place, Word};
+use parse_expr::machine::{TypeMode, TypeNext, Weighed, type_step};
 use spelled_tokens::{Mark, Spelled, What};
 use sqlite_items::Items;
 use std::alloc::{AllocError, Global};
@@ -113,7 +113,7 @@ fn def_type(
     ensures { IfOk result (λ n. n ≡ def_turn (def_step (DefStage.Type name params param mode) token)) }
 {
     let ending = ending_of(&token.what);
-    match type_step(alloc, 100, mode, token)? {
+    match type_step(alloc, GREATEST_WEIGHT as usize, mode, token)? {
         TypeNext::Go(mode) => Ok(DefTurn::Go(DefStage::Type(name, params, param, mode))),
         TypeNext::Stop(found) => param_end(name, params, param, found, ending),
     }
@@ -165,7 +165,7 @@ fn def_result(
     ensures { IfOk result (λ n. n ≡ def_turn (def_step (DefStage.Result name params mode) token)) }
 {
     let ending = ending_of(&token.what);
-    match type_step(alloc, 100, mode, token)? {
+    match type_step(alloc, GREATEST_WEIGHT as usize, mode, token)? {
         TypeNext::Go(mode) => Ok(DefTurn::Go(DefStage::Result(name, params, mode))),
         TypeNext::Stop(found) => Ok(result_end(name, params, found, ending)),
     }

@@ -8,21 +8,12 @@ use crate::around::top;
 use crate::script::script_step;
 use crate::stage::{Stage, Turn};
 use mono_list::Shared;
-use mono_syntax::{Item, LoadFault, Place, Reason, Refusal, Script};
+use mono_syntax::{Item, LoadFault, Script};
+use parse_expr::refused;
 use py_lexer::Token;
 use spelled_tokens::spell;
 use sqlite_items::Items;
 use std::alloc::Global;
-
-/// The refusal of a token that no script has there.
-fn refused(place: Place) -> LoadFault
-    ensures { result ≡ LoadFault.Refused (record { place = place; reason = Reason.Syntax }) }
-{
-    LoadFault::Refused(Refusal {
-        place,
-        reason: Reason::Syntax,
-    })
-}
 
 /// The script of these items, which END ends, where no token is left.
 fn whole(
@@ -43,7 +34,6 @@ fn whole(
 
 /// The tree of a script's tokens, or a refusal. Each token is spelled and looked at once.
 fn read(alloc: Global, tokens: &[Token], text: &str) -> Result<Script, LoadFault>
-    requires length { length text.now ≤ 1048576 }
     requires lexed { Lexes (chars text.now) tokens.now }
     ensures accepted { IfOk result (λ script. DerivesScript text.now tokens.now script) }
     ensures refused { IfErr result (IsRefused text.now tokens.now) }
@@ -64,7 +54,6 @@ fn read(alloc: Global, tokens: &[Token], text: &str) -> Result<Script, LoadFault
 /// The tree of a script's tokens, or a refusal at the first token such that the tokens up to and with it begin no script. The
 /// depth of the script costs no stack.
 pub fn parse(alloc: Global, tokens: &[Token], text: &str) -> Result<Script, LoadFault>
-    requires length { length text.now ≤ 1048576 }
     requires lexed { Lexes (chars text.now) tokens.now }
 
     // What is accepted has this tree.

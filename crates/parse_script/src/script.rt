@@ -1,9 +1,9 @@
 ghost use Rattle.std.specs.Prelude.{◌≡◌, IfOk};
 ghost use Rattle.mono_syntax.specs.Stmt.{if_any, no_else};
 ghost use Rattle.mono_syntax.specs.StmtView.{branches as branches_of};
-ghost use Rattle.parse_script.specs.ClassReading.{IsLightClass};
-ghost use Rattle.parse_script.specs.DefReading.{IsLightDef};
-ghost use Rattle.parse_script.specs.Reading.{added, start_mark, start_step, behind_step, line_step, head_colon, head_line, head_block, class_stage_of, def_stage_of, script_step, IsLightStage, turn_of};
+ghost use Rattle.parse_script.specs.computed.ClassReading.{IsLightClass};
+ghost use Rattle.parse_script.specs.computed.DefReading.{IsLightDef};
+ghost use Rattle.parse_script.specs.computed.Reading.{added, start_mark, start_step, behind_step, line_step, head_colon, head_line, head_block, class_stage_of, def_stage_of, script_step, IsLightStage, turn_of};
 
 use crate::arguments::{argument_step, line_wanted, listing_step, print_word, start_word};
 use crate::around::{added, class_at, def_at, end_at, entered, has_room, is_def, left, top};
@@ -19,7 +19,7 @@ use crate::stage::{
 };
 use mono_list::Stack;
 use mono_syntax::{Branch, Item, Place, Stmt, StmtKind, Word};
-use parse_expr::Mode;
+use parse_expr::machine::Mode;
 use spelled_tokens::{Mark, Spelled, What};
 use sqlite_items::Items;
 use std::alloc::{AllocError, Global};

@@ -1,6 +1,6 @@
 use mono_list::Stack;
 use mono_syntax::{Ann, Branch, ClassDef, Expr, FieldDef, Item, Param, Place, Stmt, Word};
-use parse_expr::{Mode, TypeMode};
+use parse_expr::machine::{Mode, TypeMode};
 use sqlite_items::Items;
 
 /// What a token is to what stands before it.

@@ -1,13 +1,12 @@
 ghost use Rattle.std.specs.Prelude.{◌≤◌, length, chars};
+ghost use Rattle.mono_syntax.specs.Limits.{most_bytes};
 ghost use Rattle.py_lexer.specs.Lexes.{Lexes};
 
-use mono_syntax::{LoadFault, Place, Reason, Refusal};
+use mono_syntax::{LoadFault, MOST_BYTES, Place, Reason, Refusal};
 use parse_script::parse;
 use py_lexer::{Token, decode, lex};
 use std::alloc::Global;
 use tree_print::print_script;
-
-const LONGEST: usize = 1_048_576;
 
 const TOO_LONG: Refusal = Refusal {
     place: Place { line: 1, column: 1 },
@@ -15,8 +14,7 @@ const TOO_LONG: Refusal = Refusal {
 };
 
 fn printed_tokens(alloc: Global, tokens: &[Token], text: &str) -> Result<String, LoadFault>
-    requires length { length text.now ≤ 1048576 }
-    requires lexed { Lexes (chars text.now) tokens.now }
+    requires { Lexes (chars text.now) tokens.now }
 {
     let script = parse(alloc, tokens, text)?;
     let printed = print_script(alloc, &script)?;
@@ -24,7 +22,7 @@ fn printed_tokens(alloc: Global, tokens: &[Token], text: &str) -> Result<String,
 }
 
 fn printed_text(alloc: Global, text: &str) -> Result<String, LoadFault>
-    requires { length text.now ≤ 1048576 }
+    requires { length text.now ≤ most_bytes }
 {
     let tokens = lex(alloc, text)?;
     printed_tokens(alloc, tokens.as_slice(), text)
@@ -32,7 +30,7 @@ fn printed_text(alloc: Global, text: &str) -> Result<String, LoadFault>
 
 /// The text of a script, or why there is none.
 pub fn printed(alloc: Global, bytes: &[u8]) -> Result<String, LoadFault> {
-    if bytes.len() > LONGEST {
+    if bytes.len() > MOST_BYTES {
         return Err(LoadFault::Refused(TOO_LONG));
     }
     match decode(bytes) {

@@ -3,6 +3,7 @@ use Rattle.std.proofs.Common.{ℕ, zero, suc, ◌+◌, ◌-◌, ◌*◌, ◌^◌
 use Rattle.std.proofs.Math.Nat.{pow-suc, mul-le-mul_left}
 use Rattle.std.proofs.lemmas.Bool.{le-leb, lt-leb}
 use Rattle.mono_list.proofs.Cases.{split}
+use Rattle.mono_syntax.specs.Limits.{greatest_integer}
 use Rattle.py_chars.specs.Spellings.{digits_value, is_numeral, number_of}
 
 -- the digits that are left count below those read
@@ -30,11 +31,11 @@ too_great v cs = omega (arith, mul-le-mul_left v (one_le (length cs)))
 pub none_read : (cs : List ℕ) → with_read 0 cs ≡ digits_value cs
 none_read cs = omega arith
 
-pub number_some : (cs : List ℕ) (v : ℕ) → is_numeral cs ≡ true → digits_value cs ≡ v → v ≤ 140737488355327 → number_of cs ≡ Some v
+pub number_some : (cs : List ℕ) (v : ℕ) → is_numeral cs ≡ true → digits_value cs ≡ v → v ≤ greatest_integer → number_of cs ≡ Some v
 unfolding number_of
-number_some cs v t e l = rw (t, e, le-leb v 140737488355327 l) refl
+number_some cs v t e l = rw (t, e, le-leb v greatest_integer l) refl
 
-pub number_none : (cs : List ℕ) → 140737488355327 < digits_value cs → number_of cs ≡ None
+pub number_none : (cs : List ℕ) → greatest_integer < digits_value cs → number_of cs ≡ None
 unfolding number_of
-number_none cs l = split (is_numeral cs) (λ b. (if b && nat_le (digits_value cs) 140737488355327 then Some (digits_value cs) else None) ≡ None)
-    (λ _. rw (lt-leb (digits_value cs) 140737488355327 l) refl) (λ _. refl)
+number_none cs l = split (is_numeral cs) (λ b. (if b && nat_le (digits_value cs) greatest_integer then Some (digits_value cs) else None) ≡ None)
+    (λ _. rw (lt-leb (digits_value cs) greatest_integer l) refl) (λ _. refl)

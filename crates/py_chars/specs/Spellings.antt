@@ -2,6 +2,7 @@
 use Rattle.std.specs.Prelude.{ℕ, ◌+◌, ◌-◌, ◌*◌, ◌^◌, Bool, false, ◌&&◌, ◌||◌, ◌==◌, not, nat_le, List, [], ◌∷◌, length, map, Option, Some, None, if◌then◌else◌}
 use Rattle.std.specs.List.{list_all}
 use Rattle.std.specs.Char.{is_ascii_digit}
+use Rattle.mono_syntax.specs.Limits.{greatest_integer}
 use Rattle.unicode_ident.specs.Ident.{is_xid_start, is_xid_continue}
 use Rattle.unicode_normalization.specs.Forms.{Nfkc, is_in_form}
 
@@ -30,7 +31,7 @@ is_numeral (c ∷ cs) = is_ascii_digit c && list_all is_ascii_digit cs && (not (
 
 -- the value of a number, which is at most 2^47 - 1
 unfoldable pub number_of : List ℕ → Option ℕ
-number_of cs = if is_numeral cs && nat_le (digits_value cs) 140737488355327 then Some (digits_value cs) else None
+number_of cs = if is_numeral cs && nat_le (digits_value cs) greatest_integer then Some (digits_value cs) else None
 
 -- what stands inside a string literal: characters that stand for themselves, and backslashes, each with the character behind it
 pub data Item : Type 0 where

@@ -8,7 +8,8 @@ use std::alloc::{AllocError, Global};
 use unicode_ident::{is_xid_continue, is_xid_start};
 use unicode_normalization::is_nfkc;
 
-fn starts_name(c: char) -> bool
+/// Whether a name may begin with the character.
+pub fn starts_name(c: char) -> bool
     ensures { result ≡ starts_name c }
 {
     is_xid_start(c) || c == '_'

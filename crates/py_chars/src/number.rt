@@ -4,9 +4,7 @@ ghost use Rattle.std.specs.Char.{is_ascii_digit};
 ghost use Rattle.py_chars.specs.Spellings.{is_numeral, number_of};
 
 use crate::text::first_char;
-
-/// The greatest integer that a number may spell.
-const GREATEST: u64 = 140737488355327;
+use mono_syntax::GREATEST_INTEGER;
 
 fn all_digits(text: &str) -> bool
     ensures { result ≡ list_all is_ascii_digit (chars text.now) }
@@ -43,7 +41,7 @@ fn is_numeral(text: &str) -> bool
 }
 
 #[tactic(auto, using(crate::proofs::Numbers::read_on, crate::proofs::Numbers::too_great, crate::proofs::Numbers::all_read), unfolding(crate::specs::Spellings::number_of))]
-/// The value of a number: `0`, or digits of which the first isn't `0`, worth at most 140737488355327.
+/// The value of a number: `0`, or digits of which the first isn't `0`, worth at most 2^47 - 1.
 pub fn number_value(text: &str) -> Option<u64>
     ensures { result ≡ number_of (chars text.now) }
 {
@@ -54,7 +52,7 @@ pub fn number_value(text: &str) -> Option<u64>
     let mut rest = text;
     while let Some((c, behind)) = first_char(rest) {
         value = value * 10 + u64::from(c as u32 - '0' as u32);
-        if value > GREATEST {
+        if value > GREATEST_INTEGER {
             return None;
         }
         rest = behind;

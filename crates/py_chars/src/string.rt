@@ -1,4 +1,4 @@
-ghost use Rattle.std.specs.Prelude.{◌≡◌, ℕ, ◌<◌, ◌≤◌, ◌∷◌, length, IfSome, chars, true, false, Some, None, Err, IfOk, MatchOption, string_bytes, encode_utf8_all};
+ghost use Rattle.std.specs.Prelude.{◌≡◌, ℕ, ◌<◌, ◌∷◌, length, IfSome, chars, true, false, Some, None, Err, IfOk, MatchOption, string_bytes, encode_utf8_all};
 ghost use Rattle.py_chars.specs.Spellings.{plain, escape, items_of, is_escape, escaped, string_of, bad_escape};
 
 use crate::text::first_char;
@@ -9,7 +9,7 @@ use thiserror::Error;
 #[derive(Debug, Drop, Error)]
 pub enum StringFault {
     #[error("bad escape behind {0} characters")]
-    BadEscape(u32),
+    BadEscape(usize),
     #[error("out of memory")]
     Memory,
 }
@@ -25,6 +25,7 @@ impl From<AllocError> for StringFault {
     }
 }
 
+/// What a character behind a backslash stands for, where it means something.
 fn escaped(c: char) -> Option<char>
     ensures { MatchOption result (is_escape c ≡ false) (λ meant. (is_escape c ≡ true) × (meant ≡ escaped c)) }
 {
@@ -51,16 +52,41 @@ fn escape_at(c: char, behind: &str) -> Option<(char, &str)>
     }
 }
 
+#[tactic(auto, unfolding(crate::specs::Spellings::bad_escape))]
+/// How many characters stand before the first backslash that means nothing.
+pub fn bad_escape(text: &str) -> Option<usize>
+    ensures value { result ≡ bad_escape (chars text.now) }
+    ensures within { IfSome result (λ n. n < length text.now) }
+{
+    let mut rest = text;
+    let mut at = 0;
+    while let Some((c, behind)) = first_char(rest) {
+        match escape_at(c, behind) {
+            None => {
+                at += 1;
+                rest = behind;
+            }
+            Some((d, further)) => {
+                if escaped(d).is_none() {
+                    return Some(at);
+                }
+                at += 2;
+                rest = further;
+            }
+        }
+    }
+    None
+}
+
 /// The value of a string with this inside, each escape replaced by what it stands for. A lone backslash at the end, which
 /// no closed literal has, stands for itself.
 pub fn string_value(alloc: Global, text: &str) -> Result<String, StringFault>
-    requires { length text.now ≤ 1048576 }
     ensures value { IfOk result (λ value. (bad_escape (chars text.now) ≡ None) × (string_bytes value ≡ encode_utf8_all (string_of (chars text.now)))) }
     ensures bad { (n : ℕ) → result ≡ Err (StringFault.BadEscape n) → bad_escape (chars text.now) ≡ Some n }
 {
     let mut value = String::new(alloc);
     let mut rest = text;
-    let mut at: u32 = 0;
+    let mut at = 0;
     while let Some((c, behind)) = first_char(rest) {
         match escape_at(c, behind) {
             None => {

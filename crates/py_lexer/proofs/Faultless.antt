@@ -17,7 +17,7 @@ use Rattle.py_lexer.specs.Characters.{behind, behind_one, is_control}
 use Rattle.py_lexer.specs.Pieces.{Piece, piece, spelled}
 use Rattle.py_lexer.specs.Layout.{brackets, Event, spells, first_tab, ending, beginning, is_open, events, left, levels_at, is_misfit, indent, mark, token, dents, laid}
 use Rattle.py_lexer.specs.Faults.{Fault, fault, fault_if, controls, begins_with, is_doubled, escape_fault, string_faults, own_faults, is_word, piece_faults, tab_fault, begin_faults, line_faults, open_behind, bracket_faults}
-use Rattle.py_lexer.specs.Scanning.{refusal, refuse_if, or_else, first_control, escape_refusal, inside_refusal, string_refusal, quote_refusal, own_refusal, tab_refusal, is_stray, line_refusal, spelling_refusal, step_refusal, end_tokens, line_dents, step_tokens, spelled_state, next_state}
+use Rattle.py_lexer.specs.computed.Scanning.{refusal, refuse_if, or_else, first_control, escape_refusal, inside_refusal, string_refusal, quote_refusal, own_refusal, tab_refusal, is_stray, line_refusal, spelling_refusal, step_refusal, end_tokens, line_dents, step_tokens, spelled_state, next_state}
 
 -- the faults and the tokens of pieces that are read in a state
 abbrev pub events_from : State → Spot → List Piece → List Event

@@ -13,7 +13,7 @@ use Rattle.py_lexer.specs.declared.piece.Kind.{Kind}
 use Rattle.py_lexer.specs.declared.piece.Kind.TheVariants as kind
 use Rattle.py_lexer.specs.Characters.{behind, behind_one, is_control}
 use Rattle.py_lexer.specs.Faults.{Fault, fault, fault_if, number_of_reason, controls, begins_with, is_doubled, escape_fault, string_faults, own_faults}
-use Rattle.py_lexer.specs.Scanning.{refusal, refuse_if, or_else, first_control, escape_refusal, inside_refusal, string_refusal, quote_refusal, own_refusal, is_stray}
+use Rattle.py_lexer.specs.computed.Scanning.{refusal, refuse_if, or_else, first_control, escape_refusal, inside_refusal, string_refusal, quote_refusal, own_refusal, is_stray}
 use Rattle.py_lexer.proofs.Faultless.{behind-append, no_controls}
 use Rattle.py_lexer.proofs.Stops.{Strictly, Late, none_late, late_strictly, one_on, all_on, more_on, controls_late, one_fault}
 

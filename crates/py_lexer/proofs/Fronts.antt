@@ -10,7 +10,7 @@ use Rattle.py_lexer.specs.declared.piece.Kind.{Kind}
 use Rattle.py_lexer.specs.declared.piece.Kind.TheVariants as kind
 use Rattle.py_lexer.specs.Characters.{is_blank, ends_line, line_of}
 use Rattle.py_lexer.specs.Pieces.{piece, IsOnLine, is_number, IsPiece}
-use Rattle.py_lexer.specs.Reading.{skip, skip_line}
+use Rattle.py_lexer.specs.computed.Reading.{skip, skip_line}
 
 -- whether the first character passes
 abbrev pub begins : (ℕ → Bool) → List ℕ → Bool

@@ -9,3 +9,4 @@ pub mod Faultless
 pub mod Stops
 pub mod Firsts
 pub mod Outcome
+pub mod EveryText

@@ -16,10 +16,10 @@ use Rattle.py_lexer.specs.Characters.{behind, is_control, is_quote, start_of, un
 use Rattle.py_lexer.specs.Pieces.{Piece, piece, spelled, IsPiece, ArePieces}
 use Rattle.py_lexer.specs.Layout.{brackets, Event, spells, ending, beginning, events, levels_at, is_misfit, indent, tokens_of}
 use Rattle.py_lexer.specs.Faults.{Fault, fault, fault_if, number_of_reason, own_faults, is_word, piece_faults, begin_faults, line_faults, open_behind, bracket_faults, faults_of, Precedes}
-use Rattle.py_lexer.specs.Scanning.{refusal, refuse_if, or_else, own_refusal, tab_refusal, is_stray, spelling_refusal, step_refusal, step_tokens, next_state, with_front, refused_or, end_refusal, last_tokens, scan, start_state}
+use Rattle.py_lexer.specs.computed.Scanning.{refusal, refuse_if, or_else, own_refusal, tab_refusal, is_stray, spelling_refusal, step_refusal, step_tokens, next_state, with_front, refused_or, end_refusal, last_tokens, scan, start_state}
 use Rattle.mono_syntax.specs.declared.LoadFault.{LoadFault}
 use Rattle.mono_syntax.specs.declared.LoadFault.TheVariants.{Refused, Memory}
-use Rattle.py_lexer.specs.Scans.{Scans, RefusedScan}
+use Rattle.py_lexer.specs.computed.Scans.{Scans, RefusedScan}
 use Rattle.py_lexer.specs.Lexes.{Lexes, FirstLexFault, RefusesText}
 use Rattle.py_lexer.proofs.Faultless.{faults_from, tokens_from, events_from, behind-append, if_false, begin_none, IsRead, step_read, end_faultless, end_laid}
 use Rattle.py_lexer.proofs.Stops.{Strictly, Late, late_strictly, if_late, all_on, more_on, own_late, pieces_late, lines_late, brackets_late, IsBefore, tab_before, one_fault}
@@ -256,7 +256,7 @@ scans_fault cs r x =
       refused = o.is_shown;
     }
 
-none_stands : (fs : List Fault) (f : Fault) → fs ≡ [] → Contains fs f → ⊥
+pub none_stands : (fs : List Fault) (f : Fault) → fs ≡ [] → Contains fs f → ⊥
 none_stands fs f e c = omega (arith, c.1, ap length e)
 
 -- a text has one list of tokens, or one first fault

@@ -13,9 +13,9 @@ use Rattle.py_lexer.specs.declared.token.Token.{Token}
 use Rattle.py_lexer.specs.Bounds.{Fits}
 use Rattle.py_lexer.specs.Characters.{behind, behind_one, start_of, unmarked}
 use Rattle.py_lexer.specs.Pieces.{Piece, piece, spelled, IsPiece, Cuts}
-use Rattle.py_lexer.specs.Reading.{front}
-use Rattle.py_lexer.specs.Scanning.{scan, with_front, refused_or, step_refusal, step_tokens, next_state, end_refusal, last_tokens, start_state, RefusedBy}
-use Rattle.py_lexer.specs.Scans.{Scans, RefusedScan}
+use Rattle.py_lexer.specs.computed.Reading.{front}
+use Rattle.py_lexer.specs.computed.Scanning.{scan, with_front, refused_or, step_refusal, step_tokens, next_state, end_refusal, last_tokens, start_state, RefusedBy}
+use Rattle.py_lexer.specs.computed.Scans.{Scans, RefusedScan}
 use Rattle.mono_syntax.specs.declared.LoadFault.{LoadFault}
 use Rattle.mono_syntax.specs.declared.LoadFault.TheVariants.{Refused, Memory}
 use Rattle.py_lexer.proofs.Fronts.{Front}

@@ -10,7 +10,7 @@ use Rattle.py_lexer.specs.declared.piece.Kind.{Kind}
 use Rattle.py_lexer.specs.declared.piece.Kind.TheVariants as kind
 use Rattle.py_lexer.specs.Characters.{is_blank, is_quote, ends_line}
 use Rattle.py_lexer.specs.Pieces.{is_short_sign, is_long_sign, is_sign, Spells}
-use Rattle.py_lexer.specs.Reading.{skip, skip_line, at_close, string_when, string_at, short_at, sign_at, behind_end, front_at}
+use Rattle.py_lexer.specs.computed.Reading.{skip, skip_line, at_close, string_when, string_at, short_at, sign_at, behind_end, front_at}
 use Rattle.py_lexer.proofs.Fronts.{Front, is_nil, blank_front, comment_front, word_front, number_front}
 use Rattle.py_lexer.proofs.Strings.{text_front, unclosed_front}
 

@@ -9,7 +9,7 @@ use Rattle.py_chars.proofs.Items.{plain_item, escape_item}
 use Rattle.py_lexer.specs.declared.piece.Kind.TheVariants as kind
 use Rattle.py_lexer.specs.Characters.{is_quote, ends_line, line_of}
 use Rattle.py_lexer.specs.Pieces.{IsOnLine, IsLiteral, stays_inside}
-use Rattle.py_lexer.specs.Reading.{skip_line, at_close}
+use Rattle.py_lexer.specs.computed.Reading.{skip_line, at_close}
 use Rattle.py_lexer.proofs.Fronts.{Front, line_parts, line_on, line_longest, line_head, is_nil}
 
 -- a line that has a character doesn't end there

@@ -13,7 +13,7 @@ use Rattle.py_lexer.specs.declared.piece.Kind.{Kind}
 use Rattle.py_lexer.specs.declared.piece.Kind.TheVariants as kind
 use Rattle.py_lexer.specs.Characters.{is_among, is_blank, is_quote, ends_line}
 use Rattle.py_lexer.specs.Pieces.{Piece, piece, spelled, is_short_sign, is_long_sign, is_sign, Spells, IsLongest, IsStray, IsPiece, ArePieces, Cuts}
-use Rattle.py_lexer.specs.Reading.{skip, at_close, string_when, string_at, short_at, sign_at, front_at}
+use Rattle.py_lexer.specs.computed.Reading.{skip, at_close, string_when, string_at, short_at, sign_at, front_at}
 use Rattle.py_lexer.proofs.Fronts.{is_nil}
 use Rattle.py_lexer.proofs.Strings.{literal_close, text_front}
 use Rattle.py_lexer.proofs.Signs.{front_is}

@@ -1,5 +1,5 @@
 -- The tokens of a text, and the refusal of a text that has none.
-use Rattle.std.specs.Prelude.{◌≡◌, ℕ, List, [], take}
+use Rattle.std.specs.Prelude.{◌≡◌, ℕ, ◌⊎◌, List, [], take}
 use Rattle.mono_syntax.specs.declared.Refusal.{Refusal}
 use Rattle.mono_syntax.specs.declared.LoadFault.{LoadFault}
 use Rattle.mono_syntax.specs.declared.LoadFault.TheVariants.{Refused, Memory}
@@ -32,6 +32,22 @@ pub record FirstLexFault (cs : List ℕ) (refusal : Refusal) : Type 0 where
 abbrev pub RefusesText : List ℕ → LoadFault → Type 0
 RefusesText cs Memory = Unit {0}
 RefusesText cs (Refused r) = FirstLexFault cs r
+
+-- every text, whatever its length, has tokens or a first fault
+abbrev pub AlwaysLexes : Type 0
+AlwaysLexes = (cs : List ℕ) → ((ts : List Token) × Lexes cs ts) ⊎ ((r : Refusal) × FirstLexFault cs r)
+
+-- no text has both
+abbrev pub NeverBoth : Type 0
+NeverBoth = (cs : List ℕ) (ts : List Token) (r : Refusal) → Lexes cs ts → FirstLexFault cs r → ⊥
+
+-- the tokens of a text are one list
+abbrev pub OneTokenList : Type 0
+OneTokenList = (cs : List ℕ) (ts us : List Token) → Lexes cs ts → Lexes cs us → ts ≡ us
+
+-- the first fault of a text is one refusal
+abbrev pub OneFirstFault : Type 0
+OneFirstFault = (cs : List ℕ) (r s : Refusal) → FirstLexFault cs r → FirstLexFault cs s → r ≡ s
 
 -- the spot behind the characters of a text
 abbrev pub end_of : List ℕ → Spot

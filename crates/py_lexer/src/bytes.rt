@@ -1,5 +1,6 @@
 ghost use Rattle.std.specs.Prelude.{◌≡◌, ◌≤◌, length, chars, MatchResult};
 ghost use Rattle.std.specs.Str.{IsUtf8};
+ghost use Rattle.mono_syntax.specs.Limits.{most_bytes};
 ghost use Rattle.py_lexer.specs.Lexes.{end_of, RefusesBytes};
 
 use crate::lexer::start;
@@ -9,7 +10,7 @@ use std::str::from_utf8;
 
 /// The place behind a text.
 fn end_place(text: &str) -> Place
-    requires { length text.now ≤ 1048576 }
+    requires { length text.now ≤ most_bytes }
     ensures { result ≡ (end_of (chars text.now)).place }
 {
     let (spot, unmarked) = start(text);
@@ -18,7 +19,7 @@ fn end_place(text: &str) -> Place
 
 /// The text of some bytes, or the refusal at the first byte that begins no UTF-8 sequence.
 pub fn decode(bytes: &[u8]) -> Result<&str, Refusal>
-    requires { length bytes.now ≤ 1048576 }
+    requires { length bytes.now ≤ most_bytes }
     ensures { MatchResult result (λ text. (text.now ≡ bytes.now) × IsUtf8 bytes.now) (RefusesBytes bytes.now) }
 {
     match from_utf8(bytes) {

@@ -1,16 +1,16 @@
 ghost use Rattle.std.specs.Prelude.{◌≡◌, ◌+◌, ◌<◌, ◌≤◌, ◌&&◌, ◌||◌, true, false, not, is_some, drop, Some, None, length, chars, OnOk, IfErr, IfSome, MatchOption, ◌∷◌};
-ghost use Rattle.py_chars.specs.Spellings.{is_name, number_of, bad_escape, is_escape, plain, escape, items_of};
+ghost use Rattle.py_chars.specs.Spellings.{is_name, number_of, bad_escape};
 ghost use Rattle.py_lexer.specs.Bounds.{Fits};
 ghost use Rattle.py_lexer.specs.Characters.{is_control};
 ghost use Rattle.py_lexer.specs.Faults.{begins_with, is_doubled};
-ghost use Rattle.py_lexer.specs.Scanning.{RefusedBy, refusal, refuse_if, first_control, inside_refusal, string_refusal, quote_refusal, own_refusal};
+ghost use Rattle.py_lexer.specs.computed.Scanning.{RefusedBy, refusal, refuse_if, first_control, inside_refusal, string_refusal, quote_refusal, own_refusal};
 ghost use Rattle.mono_syntax.specs.declared.Reason.TheVariants.{BadNumber};
 
 use crate::piece::Kind;
 use crate::spot::{Spot, behind_one, spot_in};
-use crate::text::{first_char, starts_with};
+use crate::text::starts_with;
 use mono_syntax::{LoadFault, Reason, Refusal};
-use py_chars::{name_ok, number_value};
+use py_chars::{bad_escape, first_char, name_ok, number_value};
 use std::alloc::Global;
 
 pub fn refusal(reason: Reason, spot: Spot) -> Refusal
@@ -54,54 +54,6 @@ pub fn first_control(spot: Spot, text: &str) -> Option<Refusal>
         rest = behind;
     }
     None
-}
-
-fn is_escape(c: char) -> bool
-    ensures { result ≡ is_escape c }
-{
-    matches!(c, 'n' | 't' | '\\' | '\'' | '"')
-}
-
-#[tactic(auto, unfolding(py_chars::specs::Spellings::bad_escape))]
-/// How many characters stand before the first backslash that means nothing.
-fn bad_escape(text: &str) -> Option<u32>
-    requires { length text.now ≤ 1048576 }
-    ensures value { result ≡ bad_escape (chars text.now) }
-    ensures within { IfSome result (λ n. n < length text.now) }
-{
-    let mut rest = text;
-    let mut at: u32 = 0;
-    while let Some((c, behind)) = first_char(rest) {
-        match escape_at(c, behind) {
-            None => {
-                at += 1;
-                rest = behind;
-            }
-            Some((d, further)) => {
-                if !is_escape(d) {
-                    return Some(at);
-                }
-                at += 2;
-                rest = further;
-            }
-        }
-    }
-    None
-}
-
-/// The character behind a backslash, and what stands behind it.
-#[tactic(auto, using(py_chars::proofs::Items::plain_item, py_chars::proofs::Items::last_item, py_chars::proofs::Items::escape_item))]
-fn escape_at(c: char, behind: &str) -> Option<(char, &str)>
-    ensures item { MatchOption result (items_of (c ∷ chars behind.now) ≡ plain c ∷ items_of (chars behind.now)) (λ r. items_of (c ∷ chars behind.now) ≡ escape r.0 ∷ items_of (chars r.1.now)) }
-    ensures shorter { IfSome result (λ r. length r.1.now < length behind.now) }
-{
-    if c != '\\' {
-        return None;
-    }
-    match first_char(behind) {
-        None => None,
-        Some((d, further)) => Some((d, further)),
-    }
 }
 
 #[tactic(auto, unfolding(py_chars::specs::Spellings::bad_escape))]

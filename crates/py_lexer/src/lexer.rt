@@ -2,23 +2,25 @@ ghost use Rattle.std.specs.Prelude.{◌≡◌, ◌≤◌, ◌⊎◌, List, Ok, l
 ghost use Rattle.py_lexer.specs.Bounds.{Fits};
 ghost use Rattle.py_lexer.specs.Characters.{start_of, unmarked};
 ghost use Rattle.py_lexer.specs.Lexes.{Lexes, FirstLexFault, RefusesText};
-ghost use Rattle.py_lexer.specs.Scans.{Scans, RefusedScan};
+ghost use Rattle.py_lexer.specs.computed.Scans.{Scans, RefusedScan};
 ghost use Rattle.py_lexer.specs.declared.token.Token.{Token};
+ghost use Rattle.mono_syntax.specs.Limits.{most_bytes};
 ghost use Rattle.mono_syntax.specs.declared.Refusal.{Refusal};
 ghost use Rattle.mono_syntax.specs.declared.LoadFault.TheVariants.{Refused, Memory};
 
 use crate::piece::front;
 use crate::spot::{Spot, spot_behind};
 use crate::state::{State, finish, step};
-use crate::text::{before, first_char};
+use crate::text::before;
 use crate::token::Token;
 use mono_syntax::{LoadFault, Place};
+use py_chars::first_char;
 use std::alloc::Global;
 
 /// Where a text begins, and what it is, behind a byte order mark.
 #[tactic(auto, using(crate::proofs::Spots::mark_bytes))]
 pub fn start(text: &str) -> (Spot, &str)
-    requires { length text.now ≤ 1048576 }
+    requires { length text.now ≤ most_bytes }
     ensures spot { result.0 ≡ start_of (chars text.now) }
     ensures rest { chars result.1.now ≡ unmarked (chars text.now) }
     ensures fits { Fits result.0 (length result.1.now) }
@@ -32,7 +34,7 @@ pub fn start(text: &str) -> (Spot, &str)
 
 /// Reads a text piece by piece.
 fn scanned(alloc: Global, text: &str) -> Result<Vec<Token>, LoadFault>
-    requires { length text.now ≤ 1048576 }
+    requires { length text.now ≤ most_bytes }
     ensures ok { IfOk result (λ tokens. Scans (chars text.now) (Ok tokens.items)) }
     ensures refused { IfErr result (RefusedScan (chars text.now)) }
 {
@@ -59,7 +61,7 @@ fn scanned(alloc: Global, text: &str) -> Result<Vec<Token>, LoadFault>
 
 /// The tokens of a text, in order, or the first of its faults. Nothing of the text is copied.
 pub fn lex(alloc: Global, text: &str) -> Result<Vec<Token>, LoadFault>
-    requires { length text.now ≤ 1048576 }
+    requires { length text.now ≤ most_bytes }
     ensures tokens { IfOk result (λ tokens. Lexes (chars text.now) tokens.items) }
     ensures refused { IfErr result (RefusesText (chars text.now)) }
 

@@ -4,10 +4,10 @@ ghost use Rattle.unicode_ident.specs.Ident.{is_xid_continue};
 ghost use Rattle.py_chars.specs.Spellings.{starts_name};
 ghost use Rattle.py_lexer.specs.Characters.{is_blank, is_quote, ends_line};
 ghost use Rattle.py_lexer.specs.Pieces.{is_short_sign, is_long_sign};
-ghost use Rattle.py_lexer.specs.Reading.{skip, skip_line, at_close, behind_end, string_at, sign_at, front};
+ghost use Rattle.py_lexer.specs.computed.Reading.{skip, skip_line, at_close, behind_end, string_at, sign_at, front};
 
-use crate::text::first_char;
-use unicode_ident::{is_xid_continue, is_xid_start};
+use py_chars::{first_char, starts_name};
+use unicode_ident::is_xid_continue;
 
 /// What a piece of a text is. A string that isn't closed on its line is `Unclosed`, and a character that begins nothing
 /// is `Stray`.
@@ -28,12 +28,6 @@ fn is_blank(c: char) -> bool
     ensures { result ≡ is_blank c }
 {
     c == ' ' || c == '\t'
-}
-
-fn starts_name(c: char) -> bool
-    ensures { result ≡ starts_name c }
-{
-    is_xid_start(c) || c == '_'
 }
 
 fn is_quote(c: char) -> bool
@@ -180,7 +174,7 @@ fn end_front(c: char, behind: &str) -> &str
     }
 }
 
-#[tactic(auto, unfolding(crate::specs::Reading::front))]
+#[tactic(auto, unfolding(crate::specs::computed::Reading::front))]
 /// The piece that begins the text, and what stands behind it.
 pub fn front(text: &str) -> (Kind, &str)
     ensures kind { result.0 ≡ (front (chars text.now)).0 }

@@ -2,8 +2,8 @@ ghost use Rattle.std.specs.Prelude.{◌≡◌, ◌+◌, ◌<◌, ◌≤◌, ℕ,
 ghost use Rattle.py_lexer.specs.Characters.{place_behind, behind_one, behind};
 ghost use Rattle.py_lexer.specs.Bounds.{Fits};
 
-use crate::text::first_char;
 use mono_syntax::Place;
+use py_chars::first_char;
 
 /// Where a character stands: the number of bytes before it, and its place.
 #[derive(Clone, Copy, Debug, PartialEq, Eq)]
@@ -58,7 +58,7 @@ pub fn spot_behind(spot: Spot, text: &str) -> Spot
 }
 
 /// The spot of the n-th character of a text.
-pub fn spot_in(spot: Spot, text: &str, n: u32) -> Spot
+pub fn spot_in(spot: Spot, text: &str, n: usize) -> Spot
     requires { Fits spot (length text.now) }
     ensures { result ≡ behind spot (take n (chars text.now)) }
 {

@@ -2,7 +2,7 @@ ghost use Rattle.std.specs.Prelude.{◌≡◌, ◌+◌, ◌++◌, ◌≤◌, [],
 ghost use Rattle.py_lexer.specs.Bounds.{Fits};
 ghost use Rattle.py_lexer.specs.Layout.{first_tab, opened, top, kept, left, levels_at, is_misfit, is_reserved, indent, mark, token, what_of, dents};
 ghost use Rattle.py_lexer.specs.Faults.{is_word};
-ghost use Rattle.py_lexer.specs.Scanning.{RefusedBy, step_refusal, spelling_refusal, line_refusal, tab_refusal, refuse_if, or_else, is_stray, step_tokens, end_tokens, line_dents, next_state, spelled_state, ended_state, end_refusal, last_tokens};
+ghost use Rattle.py_lexer.specs.computed.Scanning.{RefusedBy, step_refusal, spelling_refusal, line_refusal, tab_refusal, refuse_if, or_else, is_stray, step_tokens, end_tokens, line_dents, next_state, spelled_state, ended_state, end_refusal, last_tokens};
 ghost use Rattle.mono_syntax.specs.declared.Reason.TheVariants.{BadChar, BadDedent};
 ghost use Rattle.py_lexer.specs.declared.token.TokenKind.TheVariants.{Dedent, Reserved, Name};
 
@@ -10,10 +10,10 @@ use crate::fault::{answer, check_own, first_control, refusal};
 use crate::piece::Kind;
 use crate::reserved::is_reserved;
 use crate::spot::{Spot, behind_one};
-use crate::text::first_char;
 use crate::token::{Token, TokenKind};
 use mono_list::Stack;
 use mono_syntax::{LoadFault, Reason, Refusal};
+use py_chars::first_char;
 use std::alloc::{AllocError, Global};
 
 /// What the pieces read so far leave behind: the open brackets and the columns of the open blocks, the innermost on top,
@@ -28,7 +28,7 @@ pub struct State {
 }
 
 impl State {
-    ghost use Rattle.py_lexer.specs.Scanning.{start_state};
+    ghost use Rattle.py_lexer.specs.computed.Scanning.{start_state};
 
     /// The state at the start of a text.
     pub fn new(alloc: Global) -> State

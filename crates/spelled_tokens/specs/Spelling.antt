@@ -4,9 +4,9 @@ use Rattle.std.specs.Borrow.{Bor}
 use Rattle.py_lexer.specs.declared.token.Token.{Token}
 
 -- the text behind a reference
-abbrev pub behind : Option (Bor (List ℕ)) → Option (List ℕ)
-behind None = None
-behind (Some w) = Some w.now
+abbrev pub text_behind : Option (Bor (List ℕ)) → Option (List ℕ)
+text_behind None = None
+text_behind (Some w) = Some w.now
 
 -- whether a character of the text begins at this byte, or the text ends there
 abbrev pub is_boundary : List ℕ → ℕ → Bool

@@ -88,7 +88,7 @@ punctuation w =
     else what.Mark mark.Unused))))))))
 
 abbrev pub sign_when : Option Op → List ℕ → What
-sign_when (Some o) w = what.Sign o
+sign_when (Some o) w = what.Operator o
 sign_when None w = punctuation w
 
 -- an operator

@@ -1,5 +1,5 @@
-ghost use Rattle.std.specs.Prelude.{◌≡◌, ◌≤◌, length, IfOk, IfSome};
-ghost use Rattle.spelled_tokens.specs.Spelling.{behind, spelling, inside};
+ghost use Rattle.std.specs.Prelude.{◌≡◌, IfOk};
+ghost use Rattle.spelled_tokens.specs.Spelling.{text_behind, spelling, inside};
 ghost use Rattle.spelled_tokens.specs.SpelledTokens.{name_what, number_what, text_what, reserved_what, operator_what, what_when, spell};
 
 use crate::cutting::{inside, spelling};
@@ -53,7 +53,8 @@ pub enum What {
     Or,
     And,
     Not,
-    Sign(Op),
+    /// An operator with two parts; the minus may also stand in front of one.
+    Operator(Op),
     Dot,
     Open,
     Close,
@@ -71,7 +72,7 @@ pub struct Spelled {
 }
 
 fn name_what(alloc: Global, text: Option<&str>) -> Result<What, AllocError>
-    ensures { IfOk result (λ what. what ≡ name_what (behind text.entry)) }
+    ensures { IfOk result (λ what. what ≡ name_what (text_behind text.entry)) }
 {
     let Some(text) = text else {
         return Ok(What::Mark(Mark::Unused));
@@ -81,7 +82,7 @@ fn name_what(alloc: Global, text: Option<&str>) -> Result<What, AllocError>
 }
 
 fn number_what(text: Option<&str>) -> What
-    ensures { result ≡ number_what (behind text.entry) }
+    ensures { result ≡ number_what (text_behind text.entry) }
 {
     let Some(text) = text else {
         return What::Mark(Mark::Unused);
@@ -93,8 +94,7 @@ fn number_what(text: Option<&str>) -> What
 }
 
 fn text_what(alloc: Global, inside: Option<&str>) -> Result<What, AllocError>
-    requires { IfSome inside (λ part. length part.now ≤ 1048576) }
-    ensures { IfOk result (λ what. what ≡ text_what (behind inside.entry)) }
+    ensures { IfOk result (λ what. what ≡ text_what (text_behind inside.entry)) }
 {
     let Some(inside) = inside else {
         return Ok(What::Mark(Mark::Unused));
@@ -110,7 +110,7 @@ fn text_what(alloc: Global, inside: Option<&str>) -> Result<What, AllocError>
 }
 
 fn reserved_what(text: Option<&str>) -> What
-    ensures { result ≡ reserved_what (behind text.entry) }
+    ensures { result ≡ reserved_what (text_behind text.entry) }
 {
     match text {
         Some(word) => word_what(word),
@@ -119,7 +119,7 @@ fn reserved_what(text: Option<&str>) -> What
 }
 
 fn operator_what(text: Option<&str>) -> What
-    ensures { result ≡ operator_what (behind text.entry) }
+    ensures { result ≡ operator_what (text_behind text.entry) }
 {
     match text {
         Some(sign) => sign_what(sign),
@@ -128,7 +128,6 @@ fn operator_what(text: Option<&str>) -> What
 }
 
 fn what_of(alloc: Global, text: &str, token: &Token) -> Result<What, AllocError>
-    requires { length text.now ≤ 1048576 }
     ensures { IfOk result (λ what. what ≡ what_when token.now.what (spelling text.now token.now) (inside text.now token.now)) }
 {
     match token.what {
@@ -146,7 +145,6 @@ fn what_of(alloc: Global, text: &str, token: &Token) -> Result<What, AllocError>
 
 /// A token of a text with what it spells. The text of a name and the value of a string are copied.
 pub fn spell(alloc: Global, text: &str, token: &Token) -> Result<Spelled, AllocError>
-    requires { length text.now ≤ 1048576 }
     ensures { IfOk result (λ s. s ≡ spell text.now token.now) }
 {
     let what = what_of(alloc, text, token)?;

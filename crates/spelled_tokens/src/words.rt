@@ -116,7 +116,7 @@ pub fn sign_what(sign: &str) -> What
     ensures { result ≡ sign_what sign.now }
 {
     match operator(sign) {
-        Some(op) => What::Sign(op),
+        Some(op) => What::Operator(op),
         None => punctuation(sign),
     }
 }

@@ -9,7 +9,7 @@ use Rattle.py_lexer.specs.Layout.{top, kept, left, levels_at, is_misfit, indent,
 use Rattle.spelled_tokens.specs.declared.token.What.TheVariants as what
 use Rattle.spelled_tokens.specs.declared.token.Mark.TheVariants as mark_kind
 use Rattle.spelled_tokens.specs.SpelledTokens.{all_spelled}
-use Rattle.token_lines.specs.Lines.{dents}
+use Rattle.token_lines.specs.Lines.{dents_between}
 use Rattle.token_lines.specs.Back.{whats}
 
 -- the columns of this many blocks, the innermost first
@@ -52,7 +52,7 @@ dedents all s (suc n) = ap (λ l. what.Mark mark_kind.Dedent ∷ l) (dedents all
 pub record Steps (d e : ℕ) : Type 0 where
   pub levels : levels_at (levels_of d) (4 * e) ≡ levels_of e
   pub no_misfit : is_misfit (levels_of d) (4 * e) ≡ false
-  pub marks : (all : List ℕ) (s : Spot) → indent s ≡ 4 * e → whats (all_spelled all (layout.dents (levels_of d) s)) ≡ dents d e
+  pub marks : (all : List ℕ) (s : Spot) → indent s ≡ 4 * e → whats (all_spelled all (layout.dents (levels_of d) s)) ≡ dents_between d e
 
 deeper : (d : ℕ) → Steps d (suc d)
 deeper d =

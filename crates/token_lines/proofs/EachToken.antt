@@ -8,6 +8,7 @@ use Rattle.std.proofs.lemmas.Bool.{ne_eqb, or_parts}
 use Rattle.std.proofs.lemmas.List.{length-drop}
 use Rattle.std.proofs.lemmas.Fmt.{IsAscii-decimal}
 use Rattle.std.proofs.lemmas.Str.{encodes-chars, chars-append, chars-IsAscii, IsUtf8-from_ascii}
+use Rattle.mono_syntax.specs.Limits.{greatest_integer}
 use Rattle.unicode_ident.proofs.Computing.{unicode_ident}
 use Rattle.mono_syntax.specs.declared.leaf.Op.{Op}
 use Rattle.mono_syntax.specs.declared.leaf.Op.TheVariants as op
@@ -19,7 +20,7 @@ use Rattle.py_lexer.specs.Characters.{is_blank, is_quote}
 use Rattle.py_lexer.specs.Faults.{is_doubled, begins_with}
 use Rattle.py_lexer.specs.Layout.{token, is_reserved}
 use Rattle.py_lexer.specs.Layout as layout
-use Rattle.py_lexer.specs.Scanning.{own_refusal}
+use Rattle.py_lexer.specs.computed.Scanning.{own_refusal}
 use Rattle.py_lexer.proofs.Fronts.{begins}
 use Rattle.spelled_tokens.specs.declared.token.What.{What}
 use Rattle.spelled_tokens.specs.declared.token.What.TheVariants as what
@@ -62,7 +63,7 @@ digit_no_blank c t = let r = digit_range c t in rw (ne_eqb c 32 (λ e. omega ari
 digit_unmarked : (c : ℕ) → is_ascii_digit c ≡ true → c == 65279 ≡ false
 digit_unmarked c t = let r = digit_range c t in ne_eqb c 65279 (λ e. omega arith)
 
-number_token : (n : ℕ) → n ≤ 140737488355327 → IsToken (printed.Plain (what.Number n))
+number_token : (n : ℕ) → n ≤ greatest_integer → IsToken (printed.Plain (what.Number n))
 number_token n h =
     let d = decimal_is n h in
     let ascii = IsAscii-decimal n (omega arith) in
@@ -142,19 +143,19 @@ text_token t h =
 closed_one : (os : List Spot) → length (drop 1 os) ≡ length os - 1
 closed_one os = length-drop 1 os
 
-op_token : (o : Op) → IsToken (printed.Plain (what.Sign o))
+op_token : (o : Op) → IsToken (printed.Plain (what.Operator o))
 unfolding unicode_ident operator punctuation
-op_token op.Add = short_token (printed.Plain (what.Sign op.Add)) 43 refl refl refl operator_sign refl (λ os s. refl)
-op_token op.Sub = short_token (printed.Plain (what.Sign op.Sub)) 45 refl refl refl operator_sign refl (λ os s. refl)
-op_token op.Mul = short_token (printed.Plain (what.Sign op.Mul)) 42 refl refl refl operator_sign refl (λ os s. refl)
-op_token op.Div = long_token (printed.Plain (what.Sign op.Div)) 47 47 refl refl refl operator_sign refl (λ os s. refl)
-op_token op.Mod = short_token (printed.Plain (what.Sign op.Mod)) 37 refl refl refl operator_sign refl (λ os s. refl)
-op_token op.Lt = short_token (printed.Plain (what.Sign op.Lt)) 60 refl refl refl operator_sign refl (λ os s. refl)
-op_token op.Le = long_token (printed.Plain (what.Sign op.Le)) 60 61 refl refl refl operator_sign refl (λ os s. refl)
-op_token op.Gt = short_token (printed.Plain (what.Sign op.Gt)) 62 refl refl refl operator_sign refl (λ os s. refl)
-op_token op.Ge = long_token (printed.Plain (what.Sign op.Ge)) 62 61 refl refl refl operator_sign refl (λ os s. refl)
-op_token op.Eq = long_token (printed.Plain (what.Sign op.Eq)) 61 61 refl refl refl operator_sign refl (λ os s. refl)
-op_token op.Ne = long_token (printed.Plain (what.Sign op.Ne)) 33 61 refl refl refl operator_sign refl (λ os s. refl)
+op_token op.Add = short_token (printed.Plain (what.Operator op.Add)) 43 refl refl refl operator_sign refl (λ os s. refl)
+op_token op.Sub = short_token (printed.Plain (what.Operator op.Sub)) 45 refl refl refl operator_sign refl (λ os s. refl)
+op_token op.Mul = short_token (printed.Plain (what.Operator op.Mul)) 42 refl refl refl operator_sign refl (λ os s. refl)
+op_token op.Div = long_token (printed.Plain (what.Operator op.Div)) 47 47 refl refl refl operator_sign refl (λ os s. refl)
+op_token op.Mod = short_token (printed.Plain (what.Operator op.Mod)) 37 refl refl refl operator_sign refl (λ os s. refl)
+op_token op.Lt = short_token (printed.Plain (what.Operator op.Lt)) 60 refl refl refl operator_sign refl (λ os s. refl)
+op_token op.Le = long_token (printed.Plain (what.Operator op.Le)) 60 61 refl refl refl operator_sign refl (λ os s. refl)
+op_token op.Gt = short_token (printed.Plain (what.Operator op.Gt)) 62 refl refl refl operator_sign refl (λ os s. refl)
+op_token op.Ge = long_token (printed.Plain (what.Operator op.Ge)) 62 61 refl refl refl operator_sign refl (λ os s. refl)
+op_token op.Eq = long_token (printed.Plain (what.Operator op.Eq)) 61 61 refl refl refl operator_sign refl (λ os s. refl)
+op_token op.Ne = long_token (printed.Plain (what.Operator op.Ne)) 33 61 refl refl refl operator_sign refl (λ os s. refl)
 
 mark_token : (m : Mark) → IsWritableMark m → IsToken (printed.Plain (what.Mark m))
 unfolding unicode_ident is_reserved expression_word type_word statement_word operator punctuation
@@ -199,7 +200,7 @@ what_token what.Nil h = keyword_token (printed.Plain what.Nil) refl refl (λ u h
 what_token what.Or h = keyword_token (printed.Plain what.Or) refl refl operator_word (λ c h. refl) (λ n. refl)
 what_token what.And h = keyword_token (printed.Plain what.And) refl refl operator_word (λ c h. refl) (λ n. refl)
 what_token what.Not h = keyword_token (printed.Plain what.Not) refl refl (λ u h. h) (λ c h. rw h refl) (λ n. refl)
-what_token (what.Sign o) h = op_token o
+what_token (what.Operator o) h = op_token o
 what_token what.Dot h = short_token (printed.Plain what.Dot) 46 refl refl refl (λ u h. h) refl (λ os s. refl)
 what_token what.Open h = short_token (printed.Plain what.Open) 40 refl refl refl (λ u h. h) refl (λ os s. refl)
 what_token what.Close h = short_token (printed.Plain what.Close) 41 refl refl refl (λ u h. h) refl (λ os s. closed_one os)

@@ -10,7 +10,7 @@ use Rattle.py_lexer.specs.declared.piece.Kind.{Kind}
 use Rattle.py_lexer.specs.declared.piece.Kind.TheVariants as kind
 use Rattle.py_lexer.specs.Characters.{is_blank, is_quote}
 use Rattle.py_lexer.specs.Pieces.{piece, IsPiece, is_short_sign, is_long_sign}
-use Rattle.py_lexer.specs.Reading.{skip, short_at, sign_at}
+use Rattle.py_lexer.specs.computed.Reading.{skip, short_at, sign_at}
 use Rattle.py_lexer.proofs.Fronts.{Front, begins, word_front, number_front, blank_front}
 use Rattle.py_lexer.proofs.Strings.{text_front}
 use Rattle.py_lexer.proofs.Signs.{IsOther, long_at, short_front, sign_front, end_front}

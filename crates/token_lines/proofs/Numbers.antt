@@ -7,6 +7,7 @@ use Rattle.std.specs.Int.{IsInRange}
 use Rattle.std.proofs.lemmas.Bool.{and_parts, and_from, leb-true, le-leb, ne_eqb, or_left, or_right}
 use Rattle.std.proofs.lemmas.Str.Parse.{IsDigitsTest, IsNumeralModel, numerals_by_weight}
 use Rattle.std.proofs.lemmas.Fmt.{decimal_nonempty, first_decimal, decimal_digit, digits_decimal, digits_value-decimal}
+use Rattle.mono_syntax.specs.Limits.{greatest_integer}
 use Rattle.unicode_ident.specs.Ident.{is_xid_continue}
 use Rattle.unicode_ident.proofs.IdentLemmas.{is_xid_continue-ascii}
 use Rattle.py_chars.specs.Spellings.{digits_value, number_of}
@@ -50,7 +51,7 @@ first_counts (suc n) c cs l e =
     let high : 48 < c = omega (arith, first_decimal (suc n) (omega arith) l, ap (λ l. get_or l 0 0) e) in
     or_left (not (c == 48)) (length cs == 0) (ap not (ne_eqb c 48 (λ q. omega arith)))
 
-decimal_of : (n : ℕ) (ds : List ℕ) → n ≤ 140737488355327 → n < 2 ^ 64 → decimal n ≡ ds → IsDecimal n
+decimal_of : (n : ℕ) (ds : List ℕ) → n ≤ greatest_integer → n < 2 ^ 64 → decimal n ≡ ds → IsDecimal n
 decimal_of n [] h l e = absurd (omega (arith, decimal_nonempty n l, ap length e))
 decimal_of n (c ∷ cs) h l e =
     let all : AreDigits (c ∷ cs) = subst AreDigits e (digits_decimal {P = AreDigits} {v = digits_value} own n l) in
@@ -65,7 +66,7 @@ decimal_of n (c ∷ cs) h l e =
       value = number_some (c ∷ cs) n (and_from (list_all is_ascii_digit (c ∷ cs)) _ all (first_counts n c cs l e)) worth h;
     }
 
-pub decimal_is : (n : ℕ) → n ≤ 140737488355327 → IsDecimal n
+pub decimal_is : (n : ℕ) → n ≤ greatest_integer → IsDecimal n
 decimal_is n h = decimal_of n (decimal n) h (omega arith) refl
 
 pub digit_goes_on : (c : ℕ) → is_ascii_digit c ≡ true → is_xid_continue c ≡ true

@@ -12,8 +12,8 @@ use Rattle.py_chars.specs.Spellings.{plain, escape, items_of, item_value, is_esc
 use Rattle.py_chars.proofs.Items.{plain_item, escape_item}
 use Rattle.py_lexer.specs.declared.spot.Spot.{Spot}
 use Rattle.py_lexer.specs.Characters.{is_control, ends_line, behind_one}
-use Rattle.py_lexer.specs.Reading.{at_close}
-use Rattle.py_lexer.specs.Scanning.{first_control}
+use Rattle.py_lexer.specs.computed.Reading.{at_close}
+use Rattle.py_lexer.specs.computed.Scanning.{first_control}
 use Rattle.spelled_tokens.specs.declared.token.What.TheVariants as what
 use Rattle.spelled_tokens.specs.SpelledTokens.{text_when}
 use Rattle.token_lines.specs.Tokens.{quoted_byte, quoted}

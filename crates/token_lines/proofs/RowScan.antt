@@ -10,7 +10,7 @@ use Rattle.py_lexer.specs.declared.token.TokenKind.TheVariants as token_kind
 use Rattle.py_lexer.specs.Characters.{is_blank, is_quote, behind}
 use Rattle.py_lexer.specs.Pieces.{piece}
 use Rattle.py_lexer.specs.Layout.{brackets, is_open, levels_at, indent, mark}
-use Rattle.py_lexer.specs.Scanning.{line_refusal, line_dents, spelled_state, ended_state, end_tokens}
+use Rattle.py_lexer.specs.computed.Scanning.{line_refusal, line_dents, spelled_state, ended_state, end_tokens}
 use Rattle.py_lexer.proofs.Fronts.{begins}
 use Rattle.spelled_tokens.specs.declared.token.What.{What}
 use Rattle.spelled_tokens.specs.declared.token.What.TheVariants as what
@@ -21,7 +21,7 @@ use Rattle.token_lines.specs.declared.printed.Shape.{Shape}
 use Rattle.token_lines.specs.Tokens.{what_of, text_of}
 use Rattle.token_lines.specs.Spaces.{shape_of, gap}
 use Rattle.token_lines.specs.Lines.{space_if, row_text}
-use Rattle.token_lines.specs.Writable.{IsWritable, opened_by, open_behind}
+use Rattle.token_lines.specs.Writable.{IsWritable, opened_by, open_after}
 use Rattle.token_lines.specs.Back.{whats}
 use Rattle.token_lines.proofs.Ascii.{low_utf8}
 use Rattle.token_lines.proofs.Follows.{may_follow, follows, feed_follows, space_follows}
@@ -142,7 +142,7 @@ module _ (all rest levels : List ℕ) (ws : List What) (u : IsUtf8 rest) (go : G
   row_token t ts n i w more st s before r j a =
       token_on t ts n i w more st s before [] r.count (rw r.begun r.blocks) (rw r.begun refl) (rw r.begun refl) j a
 
-  pub row_reads : (ts : List Printed) (z : Shape) (n : ℕ) → AreWritable ts → open_behind n ts ≡ 0 → RowReads all rest levels ws ts z n
+  pub row_reads : (ts : List Printed) (z : Shape) (n : ℕ) → AreWritable ts → open_after n ts ≡ 0 → RowReads all rest levels ws ts z n
   row_reads [] z n w o st s before r j a =
       let P : ℕ → Type 0 = λ m. InRow m levels st in row_end z st s before (subst P o r) j a
   row_reads (t ∷ ts) z n w o st s before r j a =

@@ -10,6 +10,7 @@ use Rattle.std.proofs.lemmas.List.{length-append}
 use Rattle.std.proofs.lemmas.List.Elements.{All-nil, All-cons, All-append, All-map, All-replicate}
 use Rattle.std.proofs.lemmas.List.Folds.{list_any-append}
 use Rattle.std.proofs.lemmas.Str.{IsUtf8-append, IsUtf8-encode, IsUtf8-nil, encodes-append, encodes-chars, chars-encodes, scalars-chars, encode_ascii}
+use Rattle.mono_syntax.specs.Limits.{greatest_integer}
 use Rattle.mono_list.proofs.Cases.{split, some_is, none_some}
 use Rattle.mono_syntax.specs.declared.leaf.Op.{Op}
 use Rattle.mono_syntax.specs.declared.Reason.TheVariants.{BadChar, BadName, BadString}
@@ -38,12 +39,12 @@ use Rattle.token_lines.proofs.Cutting.{cut_between, inside_spells}
 
 -- ---- numbers, reserved words and operators
 
-number_small : (cs : List ℕ) (n : ℕ) → number_of cs ≡ Some n → n ≤ 140737488355327
+number_small : (cs : List ℕ) (n : ℕ) → number_of cs ≡ Some n → n ≤ greatest_integer
 unfolding number_of
 number_small cs n e =
-    split (is_numeral cs && nat_le (digits_value cs) 140737488355327) (λ b. cond {A = Option ℕ} b (Some (digits_value cs)) None ≡ Some n → n ≤ 140737488355327)
-    (λ t k. rw (← some_is k) (leb-true (digits_value cs) 140737488355327 (and_parts (is_numeral cs) (nat_le (digits_value cs) 140737488355327) t).1))
-    (λ _ k. none_some (n ≤ 140737488355327) k) e
+    split (is_numeral cs && nat_le (digits_value cs) greatest_integer) (λ b. cond {A = Option ℕ} b (Some (digits_value cs)) None ≡ Some n → n ≤ greatest_integer)
+    (λ t k. rw (← some_is k) (leb-true (digits_value cs) greatest_integer (and_parts (is_numeral cs) (nat_le (digits_value cs) greatest_integer) t).1))
+    (λ _ k. none_some (n ≤ greatest_integer) k) e
 
 when_sound : (cs : List ℕ) (o : Option ℕ) → number_of cs ≡ o → IsSound (number_when o)
 when_sound cs None e = tt

@@ -11,7 +11,7 @@ use Rattle.py_lexer.specs.declared.token.Token.{Token}
 use Rattle.py_lexer.specs.Characters.{is_blank, is_quote, behind, behind_one}
 use Rattle.py_lexer.specs.Pieces.{Piece, piece, spelled, IsPiece, Cuts}
 use Rattle.py_lexer.specs.Layout.{token, first_tab}
-use Rattle.py_lexer.specs.Scanning.{scan, with_front, refused_or, or_else, step_refusal, step_tokens, next_state, line_refusal, own_refusal, line_dents, spelled_state, ended_state, end_tokens}
+use Rattle.py_lexer.specs.computed.Scanning.{scan, with_front, refused_or, or_else, step_refusal, step_tokens, next_state, line_refusal, own_refusal, line_dents, spelled_state, ended_state, end_tokens}
 use Rattle.py_lexer.proofs.Fronts.{begins}
 use Rattle.py_lexer.proofs.Spots.{behind_text}
 use Rattle.py_lexer.proofs.Unique.{piece_more}

@@ -15,7 +15,7 @@ use Rattle.py_lexer.specs.Pieces.{piece, IsPiece, is_short_sign, is_long_sign}
 use Rattle.py_lexer.specs.Layout.{brackets, token, is_reserved}
 use Rattle.py_lexer.specs.Layout as layout
 use Rattle.py_lexer.specs.Faults.{is_word}
-use Rattle.py_lexer.specs.Scanning.{own_refusal, is_stray, spelling_refusal, step_refusal, line_dents, step_tokens, spelled_state, next_state}
+use Rattle.py_lexer.specs.computed.Scanning.{own_refusal, is_stray, spelling_refusal, step_refusal, line_dents, step_tokens, spelled_state, next_state}
 use Rattle.py_lexer.proofs.Fronts.{begins}
 use Rattle.spelled_tokens.specs.declared.token.What.{What}
 use Rattle.spelled_tokens.specs.Spelling.{inside}

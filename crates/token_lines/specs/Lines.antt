@@ -35,10 +35,10 @@ lines_text [] = []
 lines_text (l ∷ ls) = line_text l ++ lines_text ls
 
 -- INDENT where a line is deeper than the one before it, else a DEDENT for each block that it leaves
-abbrev pub dents : ℕ → ℕ → List What
-dents d e = if nat_lt d e then what.Mark mark.Indent ∷ [] else replicate (d - e) (what.Mark mark.Dedent)
+abbrev pub dents_between : ℕ → ℕ → List What
+dents_between d e = if nat_lt d e then what.Mark mark.Indent ∷ [] else replicate (d - e) (what.Mark mark.Dedent)
 
 -- the tokens of lines behind one at this depth, with NEWLINE, INDENT, DEDENT and END
-abbrev pub laid : ℕ → List Line → List What
-laid d [] = replicate d (what.Mark mark.Dedent) ++ what.Mark mark.End ∷ []
-laid d (l ∷ ls) = dents d l.depth ++ (map what_of l.tokens ++ (what.Mark mark.Newline ∷ laid l.depth ls))
+abbrev pub whats_of_lines : ℕ → List Line → List What
+whats_of_lines d [] = replicate d (what.Mark mark.Dedent) ++ what.Mark mark.End ∷ []
+whats_of_lines d (l ∷ ls) = dents_between d l.depth ++ (map what_of l.tokens ++ (what.Mark mark.Newline ∷ whats_of_lines l.depth ls))

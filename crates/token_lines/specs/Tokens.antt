@@ -11,7 +11,7 @@ use Rattle.token_lines.specs.declared.printed.Printed.TheVariants as printed
 
 -- the token of the grammar that a printed one is
 abbrev pub what_of : Printed → What
-what_of printed.Minus = what.Sign op.Sub
+what_of printed.Minus = what.Operator op.Sub
 what_of (printed.Plain w) = w
 
 -- a byte inside a string: a line feed, a tab, a backslash and a quote stand behind a backslash
@@ -81,7 +81,7 @@ what_text what.Nil = codes "None"
 what_text what.Or = codes "or"
 what_text what.And = codes "and"
 what_text what.Not = codes "not"
-what_text (what.Sign o) = op_text o
+what_text (what.Operator o) = op_text o
 what_text what.Dot = codes "."
 what_text what.Open = codes "("
 what_text what.Close = codes ")"

@@ -1,4 +1,4 @@
-ghost use Rattle.std.specs.Prelude.{◌≡◌, ◌++◌, [], ◌∷◌, OnOk, decimal};
+ghost use Rattle.std.specs.Prelude.{◌≡◌, ◌++◌, [], ◌∷◌, OnOk, OnErr, IfOk, decimal};
 ghost use Rattle.token_lines.specs.declared.printed.Shape.TheVariants as shape;
 ghost use Rattle.token_lines.specs.Tokens.{quoted, quoted_byte, op_text, mark_text, truth_text, what_text, text_of, fixed_text};
 ghost use Rattle.token_lines.specs.Lines.{space_if};
@@ -11,7 +11,7 @@ use spelled_tokens::{Mark, What};
 use std::alloc::{AllocError, Global};
 use std::marker::Model;
 
-/// The text of lines so far, to which tokens are added one by one.
+/// The text of lines so far, to which tokens are added one by one. A call that fails for want of memory leaves it as it was.
 #[derive(Drop)]
 pub struct Page {
     text: Vec<u8>,
@@ -85,7 +85,7 @@ fn fixed_text(what: &What) -> &'static [u8]
         What::Or => b"or",
         What::And => b"and",
         What::Not => b"not",
-        What::Sign(op) => op_text(*op),
+        What::Operator(op) => op_text(*op),
         What::Dot => b".",
         What::Open => b"(",
         What::Close => b")",
@@ -152,6 +152,18 @@ fn put_printed(alloc: Global, text: &mut Vec<u8>, token: &Printed) -> Result<(),
     }
 }
 
+/// A token's text, with a space before it where one stands. It is a text of its own, so that a page takes it whole or not.
+fn spaced(alloc: Global, space: bool, token: &Printed) -> Result<Vec<u8>, AllocError>
+    ensures { IfOk result (λ piece. piece.items ≡ space_if space ++ text_of token.now) }
+{
+    let mut piece = Vec::new(alloc);
+    if space {
+        piece.push(b' ')?;
+    }
+    put_printed(alloc, &mut piece, token)?;
+    Ok(piece)
+}
+
 impl Page {
     /// No line.
     pub fn new(alloc: Global) -> Page
@@ -165,7 +177,8 @@ impl Page {
 
     /// Begins a line that stands in so many blocks.
     pub fn begin(&mut self, indent: &Indent) -> Result<(), AllocError>
-        ensures { OnOk result (self.new ≡ begun self.old indent.now) }
+        ensures line { OnOk result (self.new ≡ begun self.old indent.now) }
+        ensures unchanged { OnErr result (self.new ≡ self.old) }
     {
         self.text.extend_from_slice(indent.as_slice())?;
         self.before = Shape::Edge;
@@ -174,20 +187,20 @@ impl Page {
 
     /// Adds a token to the line, and a space before it where one stands.
     pub fn put(&mut self, alloc: Global, token: &Printed) -> Result<(), AllocError>
-        ensures { OnOk result (self.new ≡ put self.old token.now) }
+        ensures token { OnOk result (self.new ≡ put self.old token.now) }
+        ensures unchanged { OnErr result (self.new ≡ self.old) }
     {
         let shape = shape_of(token);
-        if gap(self.before, shape) {
-            self.text.push(b' ')?;
-        }
-        put_printed(alloc, &mut self.text, token)?;
+        let piece = spaced(alloc, gap(self.before, shape), token)?;
+        self.text.extend_from_slice(piece.as_slice())?;
         self.before = shape;
         Ok(())
     }
 
     /// Ends the line.
     pub fn end(&mut self) -> Result<(), AllocError>
-        ensures { OnOk result (self.new ≡ ended self.old) }
+        ensures line { OnOk result (self.new ≡ ended self.old) }
+        ensures unchanged { OnErr result (self.new ≡ self.old) }
     {
         self.text.push(b'\n')?;
         Ok(())

@@ -61,7 +61,7 @@ fn what_shape(what: &What) -> Shape
         What::Name(_) | What::Text(_) | What::Bool(_) => Shape::Word,
         What::Nil | What::Cast | What::Join => Shape::Word,
         What::Number(_) => Shape::Number,
-        What::Or | What::And | What::Sign(_) => Shape::Operator,
+        What::Or | What::And | What::Operator(_) => Shape::Operator,
         What::Not => Shape::Keyword,
         What::Dot => Shape::Dot,
         What::Comma => Shape::Spaced,

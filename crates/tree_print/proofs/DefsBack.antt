@@ -20,7 +20,7 @@ use Rattle.token_lines.specs.Tokens.{what_of}
 use Rattle.parse_expr.specs.Types.{word}
 use Rattle.parse_script.specs.Definitions as ds
 use Rattle.parse_script.specs.Definitions.{DerivesField, DerivesFields, DerivesClass, DerivesParam, DerivesParams, DerivesResult, DerivesDef}
-use Rattle.parse_script.specs.Statements.{heaviest}
+use Rattle.mono_syntax.specs.Limits.{greatest_weight}
 use Rattle.tree_print.specs.Brackets.{ann_tokens}
 use Rattle.tree_print.specs.ScriptLines.{param_tokens, more_params_tokens, params_tokens, result_tokens}
 use Rattle.tree_print.specs.Placeless.{nowhere, bare_type, bare_fields, bare_params, bare_class, bare_def}
@@ -65,7 +65,7 @@ field_back us all f (ds.field p q r x ts a k) e =
     let h = first_what us (what.Name x) (what.Mark mark.Colon ∷ (xs ++ newline ∷ [])) e in
     let c = first_what h.1 (what.Mark mark.Colon) (xs ++ newline ∷ []) h.3 in
     let n = part c.1 xs newline [] c.3 in
-    let t = type_back heaviest ts a k n.front n.fronts in
+    let t = type_back greatest_weight ts a k n.front n.fronts in
     record {
       field = field_of x h.0 t.0;
       derives =
@@ -165,7 +165,7 @@ param_back (ds.bare p x) us e =
 param_back (ds.typed p q x ts a k) us e =
     let h = first_what us (what.Name x) (what.Mark mark.Colon ∷ map what_of (ann_tokens a)) e in
     let c = first_what h.1 (what.Mark mark.Colon) (map what_of (ann_tokens a)) h.3 in
-    let t = type_back heaviest ts a k c.1 c.3 in
+    let t = type_back greatest_weight ts a k c.1 c.3 in
     record {
       param = param_of x h.0 (Some t.0);
       derives = subst (λ (l : List Spelled). DerivesParam l (param_of x h.0 (Some t.0))) (sym (behind h.2 c.2)) (ds.typed h.0 c.0 x c.1 t.0 t.1);
@@ -199,7 +199,7 @@ result_back : {ts : List Spelled} {a : Option Ann} → DerivesResult ts a → (u
 result_back ds.no_result us e = (None, subst (λ (l : List Spelled). DerivesResult l None) (sym (no_whats us e)) ds.no_result, refl)
 result_back (ds.result p ts a k) us e =
     let h = first_what us (what.Mark mark.Arrow) (map what_of (ann_tokens a)) e in
-    let t = type_back heaviest ts a k h.1 h.3 in
+    let t = type_back greatest_weight ts a k h.1 h.3 in
     (Some t.0, subst (λ (l : List Spelled). DerivesResult l (Some t.0)) (sym h.2) (ds.result h.0 h.1 t.0 t.1), ap (λ (b : Ann). Some b) t.2)
 
 abbrev func_of : List ℕ → Place → List Param → Option Ann → List Stmt → FuncDef

@@ -23,7 +23,8 @@ use Rattle.token_lines.specs.declared.printed.Printed.TheVariants.{Plain}
 use Rattle.token_lines.specs.Tokens.{what_of}
 use Rattle.token_lines.specs.Back.{whats}
 use Rattle.tree_print.specs.Brackets as b
-use Rattle.tree_print.specs.Brackets.{level_of, op_level, left_level, right_level, bracketed, placed, ann_tokens, expr_tokens, exprs_tokens, more_exprs_tokens}
+use Rattle.parse_expr.specs.Precedence.{op_left, op_whole, op_right}
+use Rattle.tree_print.specs.Brackets.{level_of, bracketed, placed, ann_tokens, expr_tokens, exprs_tokens, more_exprs_tokens}
 use Rattle.tree_print.specs.Placeless.{nowhere, bare_word, bare_expr, bare_exprs}
 use Rattle.tree_print.proofs.Splits.{Reads, stop, next, reads, Cut, parts, cut, Mid, sides, mid}
 use Rattle.tree_print.proofs.TypesBack.{type_weight, TypeFound, ann_back}
@@ -35,9 +36,9 @@ pub record Found (L : Form) (us : List Spelled) (w : ℕ) (e : Expr) : Type 0 wh
   pub derives : Derives L us w tree
   pub same : bare_expr tree ≡ bare_expr e
 
--- each list of spelled tokens that has these is this expression, of the form of the level
+-- each list of spelled tokens that has these is this expression, of the form of the level; every expression is of level 0
 abbrev pub Back : ℕ → List Printed → ℕ → Expr → Type 0
-Back l ts w e = (us : List Spelled) → Reads ts us → Found (form (suc l)) us w e
+Back l ts w e = (us : List Spelled) → Reads ts us → Found (form l) us w e
 
 pub record ArgsFound (us : List Spelled) (w : ℕ) (es : Exprs) : Type 0 where
   pub trees : List Expr
@@ -61,27 +62,27 @@ args_with d (behind p us w es a) = g.more_args p _ us _ w _ es d a
 
 -- ---- brackets
 
-in_brackets : (p : Place) (ts : List Printed) (l w : ℕ) (e : Expr) (us : List Spelled) → l ≤ 8 → Back 0 ts w e → Mid ts (Plain what.Close) [] us
-    → Found (form (suc l)) (tok what.Open p ∷ us) (suc w) e
+in_brackets : (p : Place) (ts : List Printed) (l w : ℕ) (e : Expr) (us : List Spelled) → l ≤ 9 → Back 0 ts w e → Mid ts (Plain what.Close) [] us
+    → Found (form l) (tok what.Open p ∷ us) (suc w) e
 in_brackets p ts l w e us h f (sides q ls rs x stop) =
     let c = f ls x in
-    record { tree = c.tree; derives = down 9 (suc l) (omega arith) _ _ _ (g.bracket p q ls w c.tree c.derives); same = c.same }
+    record { tree = c.tree; derives = down 9 l (omega arith) _ _ _ (g.bracket p q ls w c.tree c.derives); same = c.same }
 
-loosened : (m n : ℕ) {us : List Spelled} {w : ℕ} {e : Expr} → n ≤ m → Found (form (suc m)) us w e → Found (form (suc n)) us w e
-loosened m n h c = record { tree = c.tree; derives = down (suc m) (suc n) (omega arith) _ _ _ c.derives; same = c.same }
+loosened : (m n : ℕ) {us : List Spelled} {w : ℕ} {e : Expr} → n ≤ m → Found (form m) us w e → Found (form n) us w e
+loosened m n h c = record { tree = c.tree; derives = down m n (omega arith) _ _ _ c.derives; same = c.same }
 
-bracketed_back : (q : Bool) (l n : ℕ) (e : Expr) (ts : List Printed) → l ≤ 8 → (q ≡ false → l ≤ n) → Back n ts (weight e) e → Back l (bracketed q ts) (bumped q (weight e)) e
+bracketed_back : (q : Bool) (l n : ℕ) (e : Expr) (ts : List Printed) → l ≤ 9 → (q ≡ false → l ≤ n) → Back n ts (weight e) e → Back l (bracketed q ts) (bumped q (weight e)) e
 bracketed_back false l n e ts h k f us r = loosened n l (k refl) (f us r)
 bracketed_back true l n e ts h k f us (next m p ms vs r) = in_brackets p ts l (weight e) e vs h (λ vs x. loosened n 0 (omega arith) (f vs x)) (mid ts (Plain what.Close) [] vs r)
 
 -- an expression where a level is wanted
-placed_back : (l : ℕ) (e : Expr) → l ≤ 8 → Back (level_of e) (expr_tokens e) (weight e) e → Back l (placed l e (expr_tokens e)) (weight_at l e) e
+placed_back : (l : ℕ) (e : Expr) → l ≤ 9 → Back (level_of e) (expr_tokens e) (weight e) e → Back l (placed l e (expr_tokens e)) (weight_at l e) e
 placed_back l e h f = bracketed_back (nat_lt (level_of e) l) l (level_of e) e (expr_tokens e) h (λ q. ltb-false (level_of e) l q) f
 
 -- ---- each form from its parts
 
-binary_derives : (o : Op) (p : Place) (ts us : List Spelled) (w v : ℕ) (a b : Expr) → Derives (form (suc (left_level o))) ts w a
-    → Derives (form (suc (right_level o))) us v b → Derives (form (suc (op_level o))) (ts ++ (tok (what.Sign o) p ∷ us)) (suc (max w v)) (tree.binary o p a b)
+binary_derives : (o : Op) (p : Place) (ts us : List Spelled) (w v : ℕ) (a b : Expr) → Derives (form (op_left o)) ts w a
+    → Derives (form (op_right o)) us v b → Derives (form (op_whole o)) (ts ++ (tok (what.Operator o) p ∷ us)) (suc (max w v)) (tree.binary o p a b)
 binary_derives op.Add p ts us w v a b d f = g.add op.Add p ts us w v a b refl d f
 binary_derives op.Sub p ts us w v a b d f = g.add op.Sub p ts us w v a b refl d f
 binary_derives op.Mul p ts us w v a b d f = g.multiply op.Mul p ts us w v a b refl d f
@@ -94,7 +95,7 @@ binary_derives op.Ge p ts us w v a b d f = g.compare op.Ge p ts us w v a b refl 
 binary_derives op.Eq p ts us w v a b d f = g.compare op.Eq p ts us w v a b refl d f
 binary_derives op.Ne p ts us w v a b d f = g.compare op.Ne p ts us w v a b refl d f
 
-left_small : (o : Op) → left_level o ≤ 8
+left_small : (o : Op) → op_left o ≤ 9
 left_small op.Add = omega arith
 left_small op.Sub = omega arith
 left_small op.Mul = omega arith
@@ -107,7 +108,7 @@ left_small op.Ge = omega arith
 left_small op.Eq = omega arith
 left_small op.Ne = omega arith
 
-right_small : (o : Op) → right_level o ≤ 8
+right_small : (o : Op) → op_right o ≤ 9
 right_small op.Add = omega arith
 right_small op.Sub = omega arith
 right_small op.Mul = omega arith
@@ -120,8 +121,8 @@ right_small op.Ge = omega arith
 right_small op.Eq = omega arith
 right_small op.Ne = omega arith
 
-binary_back : (o : Op) (q : Place) (a b : Expr) (xs ys : List Printed) (w v : ℕ) (us : List Spelled) → Back (left_level o) xs w a → Back (right_level o) ys v b
-    → Mid xs (Plain (what.Sign o)) ys us → Found (form (suc (op_level o))) us (suc (max w v)) (tree.binary o q a b)
+binary_back : (o : Op) (q : Place) (a b : Expr) (xs ys : List Printed) (w v : ℕ) (us : List Spelled) → Back (op_left o) xs w a → Back (op_right o) ys v b
+    → Mid xs (Plain (what.Operator o)) ys us → Found (form (op_whole o)) us (suc (max w v)) (tree.binary o q a b)
 binary_back o q a b xs ys w v us f h (sides p ls rs x y) =
     let c = f ls x in
     let d = h rs y in
@@ -131,27 +132,27 @@ binary_back o q a b xs ys w v us f h (sides p ls rs x y) =
       same = λ i. tree.binary o nowhere (c.same i) (d.same i);
     }
 
-both_back : (a b : Expr) (xs ys : List Printed) (w v : ℕ) (us : List Spelled) → Back 1 xs w a → Back 2 ys v b → Mid xs (Plain what.And) ys us
+both_back : (a b : Expr) (xs ys : List Printed) (w v : ℕ) (us : List Spelled) → Back 2 xs w a → Back 3 ys v b → Mid xs (Plain what.And) ys us
     → Found g.and_expr us (suc (max w v)) (tree.both a b)
 both_back a b xs ys w v us f h (sides p ls rs x y) =
     let c = f ls x in
     let d = h rs y in
     record { tree = tree.both c.tree d.tree; derives = g.and p ls rs w v c.tree d.tree c.derives d.derives; same = λ i. tree.both (c.same i) (d.same i) }
 
-either_back : (a b : Expr) (xs ys : List Printed) (w v : ℕ) (us : List Spelled) → Back 0 xs w a → Back 1 ys v b → Mid xs (Plain what.Or) ys us
+either_back : (a b : Expr) (xs ys : List Printed) (w v : ℕ) (us : List Spelled) → Back 1 xs w a → Back 2 ys v b → Mid xs (Plain what.Or) ys us
     → Found g.whole us (suc (max w v)) (tree.either a b)
 either_back a b xs ys w v us f h (sides p ls rs x y) =
     let c = f ls x in
     let d = h rs y in
     record { tree = tree.either c.tree d.tree; derives = g.or p ls rs w v c.tree d.tree c.derives d.derives; same = λ i. tree.either (c.same i) (d.same i) }
 
-neg_back : (p q : Place) (a : Expr) (w : ℕ) (us : List Spelled) → Found g.factor us w a → Found g.factor (tok (what.Sign op.Sub) p ∷ us) (suc w) (tree.neg q a)
+neg_back : (p q : Place) (a : Expr) (w : ℕ) (us : List Spelled) → Found g.factor us w a → Found g.factor (tok (what.Operator op.Sub) p ∷ us) (suc w) (tree.neg q a)
 neg_back p q a w us c = record { tree = tree.neg p c.tree; derives = g.negate p us w c.tree c.derives; same = λ i. tree.neg nowhere (c.same i) }
 
 negation_back : (p q : Place) (a : Expr) (w : ℕ) (us : List Spelled) → Found g.not_expr us w a → Found g.not_expr (tok what.Not p ∷ us) (suc w) (tree.negation q a)
 negation_back p q a w us c = record { tree = tree.negation p c.tree; derives = g.not p us w c.tree c.derives; same = λ i. tree.negation nowhere (c.same i) }
 
-read_back : (a : Expr) (n : Word) (xs : List Printed) (w : ℕ) (us : List Spelled) → Back 7 xs w a → Mid xs (Plain what.Dot) (b.name n ∷ []) us
+read_back : (a : Expr) (n : Word) (xs : List Printed) (w : ℕ) (us : List Spelled) → Back 8 xs w a → Mid xs (Plain what.Dot) (b.name n ∷ []) us
     → Found g.postfix us (suc w) (tree.read a n)
 read_back a n xs w us f (sides p ls rs x (next m q ms vs stop)) =
     let c = f ls x in
@@ -173,7 +174,7 @@ arguments_back o p a es ls us w c f (sides q vs ws x stop) =
       same = λ i. tree.call nowhere (c.same i) (d.same i);
     }
 
-call_back : (o : Place) (a : Expr) (es : Exprs) (xs : List Printed) (w : ℕ) (us : List Spelled) → Back 7 xs w a
+call_back : (o : Place) (a : Expr) (es : Exprs) (xs : List Printed) (w : ℕ) (us : List Spelled) → Back 8 xs w a
     → ((vs : List Spelled) → Reads (exprs_tokens es) vs → ArgsFound vs (exprs_weight es) es) → Mid xs (Plain what.Open) (exprs_tokens es ++ Plain what.Close ∷ []) us
     → Found g.postfix us (suc (max w (exprs_weight es))) (tree.call o a es)
 call_back o a es xs w us f h (sides p ls rs x y) = arguments_back o p a es ls rs w (f ls x) h (mid (exprs_tokens es) (Plain what.Close) [] rs y)
@@ -219,22 +220,22 @@ mutual
   own_back (tree.text o t) us (next m p ms vs stop) = record { tree = tree.text p t; derives = g.text p t; same = refl }
   own_back (tree.truth o b) us (next m p ms vs stop) = record { tree = tree.truth p b; derives = g.truth p b; same = refl }
   own_back (tree.nil o) us (next m p ms vs stop) = record { tree = tree.nil p; derives = g.none p; same = refl }
-  own_back (tree.neg o a) us (next m p ms vs r) = neg_back p o a _ vs (placed_back 6 a (omega arith) (own_back a) vs r)
-  own_back (tree.negation o a) us (next m p ms vs r) = negation_back p o a _ vs (placed_back 2 a (omega arith) (own_back a) vs r)
+  own_back (tree.neg o a) us (next m p ms vs r) = neg_back p o a _ vs (placed_back 7 a (omega arith) (own_back a) vs r)
+  own_back (tree.negation o a) us (next m p ms vs r) = negation_back p o a _ vs (placed_back 3 a (omega arith) (own_back a) vs r)
   own_back (tree.binary o p a b) us r =
-      binary_back o p a b _ _ _ _ us (placed_back (left_level o) a (left_small o) (own_back a)) (placed_back (right_level o) b (right_small o) (own_back b))
-      (mid (placed (left_level o) a (expr_tokens a)) (Plain (what.Sign o)) (placed (right_level o) b (expr_tokens b)) us r)
+      binary_back o p a b _ _ _ _ us (placed_back (op_left o) a (left_small o) (own_back a)) (placed_back (op_right o) b (right_small o) (own_back b))
+      (mid (placed (op_left o) a (expr_tokens a)) (Plain (what.Operator o)) (placed (op_right o) b (expr_tokens b)) us r)
   own_back (tree.both a b) us r =
-      both_back a b _ _ _ _ us (placed_back 1 a (omega arith) (own_back a)) (placed_back 2 b (omega arith) (own_back b))
-      (mid (placed 1 a (expr_tokens a)) (Plain what.And) (placed 2 b (expr_tokens b)) us r)
+      both_back a b _ _ _ _ us (placed_back 2 a (omega arith) (own_back a)) (placed_back 3 b (omega arith) (own_back b))
+      (mid (placed 2 a (expr_tokens a)) (Plain what.And) (placed 3 b (expr_tokens b)) us r)
   own_back (tree.either a b) us r =
-      either_back a b _ _ _ _ us (placed_back 0 a (omega arith) (own_back a)) (placed_back 1 b (omega arith) (own_back b))
-      (mid (placed 0 a (expr_tokens a)) (Plain what.Or) (placed 1 b (expr_tokens b)) us r)
+      either_back a b _ _ _ _ us (placed_back 1 a (omega arith) (own_back a)) (placed_back 2 b (omega arith) (own_back b))
+      (mid (placed 1 a (expr_tokens a)) (Plain what.Or) (placed 2 b (expr_tokens b)) us r)
   own_back (tree.read a n) us r =
-      read_back a n _ _ us (placed_back 7 a (omega arith) (own_back a)) (mid (placed 7 a (expr_tokens a)) (Plain what.Dot) (b.name n ∷ []) us r)
+      read_back a n _ _ us (placed_back 8 a (omega arith) (own_back a)) (mid (placed 8 a (expr_tokens a)) (Plain what.Dot) (b.name n ∷ []) us r)
   own_back (tree.call o a es) us r =
-      call_back o a es _ _ us (placed_back 7 a (omega arith) (own_back a)) (all_back es)
-      (mid (placed 7 a (expr_tokens a)) (Plain what.Open) (exprs_tokens es ++ Plain what.Close ∷ []) us r)
+      call_back o a es _ _ us (placed_back 8 a (omega arith) (own_back a)) (all_back es)
+      (mid (placed 8 a (expr_tokens a)) (Plain what.Open) (exprs_tokens es ++ Plain what.Close ∷ []) us r)
   own_back (tree.cast o t a) us (next m p ms vs (next n q ns ws r)) =
       cast_back o p q t a _ ws (anywhere a (own_back a)) (mid (ann_tokens t) (Plain what.Comma) (expr_tokens a ++ Plain what.Close ∷ []) ws r)
   own_back (tree.join o n) us (next m p ms vs (next i q is ws (next j r js xs (next k s ks ys stop)))) =
@@ -260,11 +261,11 @@ expr_back room ts e (w, d, h) us q =
     (c.tree, (weight e, c.derives, omega arith), c.same)
 
 -- likewise where attributes and calls stand
-pub postfix_back : (ts : List Spelled) (w : ℕ) (e : Expr) → Derives g.postfix ts w e → (us : List Spelled) → whats us ≡ map what_of (placed 7 e (expr_tokens e))
+pub postfix_back : (ts : List Spelled) (w : ℕ) (e : Expr) → Derives g.postfix ts w e → (us : List Spelled) → whats us ≡ map what_of (placed 8 e (expr_tokens e))
     → (f : Expr) × (v : ℕ) × Derives g.postfix us v f × (v ≤ w) × (bare_expr f ≡ bare_expr e)
 postfix_back ts w e d us q =
-    let c = placed_back 7 e (omega arith) (own_back e) us (reads (placed 7 e (expr_tokens e)) us q) in
-    (c.tree, weight_at 7 e, c.derives, no_heavier d, c.same)
+    let c = placed_back 8 e (omega arith) (own_back e) us (reads (placed 8 e (expr_tokens e)) us q) in
+    (c.tree, weight_at 8 e, c.derives, no_heavier d, c.same)
 
 -- likewise for arguments
 pub args_back : (ts : List Spelled) (w : ℕ) (es : List Expr) → DerivesArgs ts w es → (us : List Spelled) → whats us ≡ map what_of (exprs_tokens (exprs es))

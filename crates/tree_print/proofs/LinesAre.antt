@@ -26,7 +26,8 @@ use Rattle.parse_script.specs.Definitions.{DerivesField, DerivesFields, DerivesC
 use Rattle.parse_script.specs.Script as sc
 use Rattle.parse_script.specs.Script.{DerivesItem, DerivesItems, DerivesWhole}
 use Rattle.parse_script.specs.Statements as st
-use Rattle.parse_script.specs.Statements.{heaviest, DerivesStmt, DerivesTail, DerivesBlock, DerivesStmts}
+use Rattle.mono_syntax.specs.Limits.{greatest_weight}
+use Rattle.parse_script.specs.Statements.{DerivesStmt, DerivesTail, DerivesBlock, DerivesStmts}
 use Rattle.tree_print.specs.Brackets.{expr_tokens, more_exprs_tokens, placed}
 use Rattle.tree_print.specs.ScriptLines as lines
 use Rattle.tree_print.proofs.Rows.{AreSound, front, back, IsRow, row_end, row_word, row_open, row_close, row_together, IsSome, some_word, some_before}
@@ -89,28 +90,28 @@ mutual
   stmt_starts : {i : Bool} {d : ℕ} {ts : List Spelled} {s : stmt.Stmt} → DerivesStmt i d ts s → AreSound ts → Starts d (lines.stmt_lines d s)
   stmt_starts (st.pass d p q) h = one_line some_word (row_word tt (λ n. refl) row_end)
   stmt_starts (st.give_none d p q i) h = one_line some_word (row_word tt (λ n. refl) row_end)
-  stmt_starts (st.give d p q ts e i k) h = one_line some_word (row_word tt (λ n. refl) (whole_row heaviest ts e k (front ts _ h.1)))
+  stmt_starts (st.give d p q ts e i k) h = one_line some_word (row_word tt (λ n. refl) (whole_row greatest_weight ts e k (front ts _ h.1)))
   stmt_starts (st.print d p q r s ts w es k l) h =
       one_line some_word (row_word tt (λ n. refl) (row_open (row_together (args_row k (front ts _ h.1.1)).0 (row_close row_end))))
   stmt_starts (st.assign d p q r x ts e k) h =
-      one_line some_word (row_word h.0 (λ n. refl) (row_word tt (λ n. refl) (whole_row heaviest ts e k (front ts _ h.1.1))))
+      one_line some_word (row_word h.0 (λ n. refl) (row_word tt (λ n. refl) (whole_row greatest_weight ts e k (front ts _ h.1.1))))
   stmt_starts (st.declare d p q r s x us a ts e t k) h =
-      one_line some_word (row_word h.0 (λ n. refl) (row_word tt (λ n. refl) (row_together (type_row heaviest us a t (front us _ h.1.1))
-      (row_word tt (λ n. refl) (whole_row heaviest ts e k (front ts _ (back us _ h.1.1).1))))))
+      one_line some_word (row_word h.0 (λ n. refl) (row_word tt (λ n. refl) (row_together (type_row greatest_weight us a t (front us _ h.1.1))
+      (row_word tt (λ n. refl) (whole_row greatest_weight ts e k (front ts _ (back us _ h.1.1).1))))))
   stmt_starts (st.write d p q r s x us w o ts e k l m) h =
-      one_line (some_before (placed 7 o (expr_tokens o)) _ _) (row_together (placed_row 7 o _ (expr_row k (front us _ h)))
-      (row_word tt (λ n. refl) (row_word (back us _ h).1.0 (λ n. refl) (row_word tt (λ n. refl) (whole_row heaviest ts e m (front ts _ (back us _ h).1.1.1))))))
+      one_line (some_before (placed 8 o (expr_tokens o)) _ _) (row_together (placed_row 8 o _ (expr_row k (front us _ h)))
+      (row_word tt (λ n. refl) (row_word (back us _ h).1.0 (λ n. refl) (row_word tt (λ n. refl) (whole_row greatest_weight ts e m (front ts _ (back us _ h).1.1.1))))))
   stmt_starts (st.start d p q r s t u x ts w e es k l) h =
       one_line some_word (row_word h.0 (λ n. refl) (row_word tt (λ n. refl) (row_word tt (λ n. refl) (row_open
       (row_three (expr_tokens e) (more_exprs_tokens (exprs es)) _ (args_row k (front ts _ h.1.1.1.1)).0 (row_close row_end))))))
-  stmt_starts (st.plain d q ts e k) h = one_line (expr_some e) (whole_row heaviest ts e k (front ts _ h))
+  stmt_starts (st.plain d q ts e k) h = one_line (expr_some e) (whole_row greatest_weight ts e k (front ts _ h))
   stmt_starts (st.if_any d p q ts e us ss vs bs el l k b t) h =
       let rest = (back ts _ h.1).1 in
       let tail = tail_goes t (back us vs rest) in
-      starts_together (starts_together (with_block some_word (row_word tt (λ n. refl) (row_together (whole_row heaviest ts e k (front ts _ h.1)) colon_end))
+      starts_together (starts_together (with_block some_word (row_word tt (λ n. refl) (row_together (whole_row greatest_weight ts e k (front ts _ h.1)) colon_end))
       (block_starts b (front us vs rest))) tail.0) tail.1
   stmt_starts (st.while d p q ts e us ss l k b) h =
-      with_block some_word (row_word tt (λ n. refl) (row_together (whole_row heaviest ts e k (front ts _ h.1)) colon_end)) (block_starts b (back ts _ h.1).1)
+      with_block some_word (row_word tt (λ n. refl) (row_together (whole_row greatest_weight ts e k (front ts _ h.1)) colon_end)) (block_starts b (back ts _ h.1).1)
 
   tail_goes : {i : Bool} {d : ℕ} {ts : List Spelled} {bs : List Branch} {el : stmt.Else} → DerivesTail i d ts bs el → AreSound ts
       → Goes d (lines.branches_lines d mark.Elif (branches bs)) × Goes d (lines.else_lines d el)
@@ -118,7 +119,7 @@ mutual
   tail_goes (st.elif d p q ts e us ss vs bs el k b t) h =
       let rest = (back ts _ h.1).1 in
       let tail = tail_goes t (back us vs rest) in (
-        goes (starts_together (with_block some_word (row_word tt (λ n. refl) (row_together (whole_row heaviest ts e k (front ts _ h.1)) colon_end))
+        goes (starts_together (with_block some_word (row_word tt (λ n. refl) (row_together (whole_row greatest_weight ts e k (front ts _ h.1)) colon_end))
             (block_starts b (front us vs rest))) tail.0),
         tail.1,
       )
@@ -134,7 +135,7 @@ mutual
 -- ---- classes and functions
 
 field_starts : {ts : List Spelled} {f : FieldDef} → DerivesField ts f → AreSound ts → Starts 1 (lines.field_line f ∷ [])
-field_starts (ds.field p q r x ts a k) h = one_line some_word (row_word h.0 (λ n. refl) (row_word tt (λ n. refl) (type_row heaviest ts a k (front ts _ h.1.1))))
+field_starts (ds.field p q r x ts a k) h = one_line some_word (row_word h.0 (λ n. refl) (row_word tt (λ n. refl) (type_row greatest_weight ts a k (front ts _ h.1.1))))
 
 fields_start : {ts : List Spelled} {fs : List FieldDef} → DerivesFields ts fs → AreSound ts → Starts 1 (lines.fields_lines fs)
 fields_start (ds.one_field ts f k) h = field_starts k h
@@ -153,7 +154,7 @@ class_starts (ds.fields p q r s t u x us fs k) h =
 
 param_row : {ts : List Spelled} {x : Param} → DerivesParam ts x → AreSound ts → IsRow 0 (lines.param_tokens x)
 param_row (ds.bare p x) h = row_word h.0 (λ n. refl) row_end
-param_row (ds.typed p q x ts a k) h = row_word h.0 (λ n. refl) (row_word tt (λ n. refl) (type_row heaviest ts a k h.1.1))
+param_row (ds.typed p q x ts a k) h = row_word h.0 (λ n. refl) (row_word tt (λ n. refl) (type_row greatest_weight ts a k h.1.1))
 
 -- with no comma before them, and with one
 params_row : {ts : List Spelled} {xs : List Param} → DerivesParams ts xs → AreSound ts → IsRow 0 (lines.params_tokens xs) × IsRow 0 (lines.more_params_tokens xs)
@@ -167,7 +168,7 @@ params_row (ds.more_params p ts us x xs k l) h =
 
 result_row : {ts : List Spelled} {a : Option Ann} → DerivesResult ts a → AreSound ts → IsRow 0 (lines.result_tokens a)
 result_row ds.no_result h = row_end
-result_row (ds.result p ts a k) h = row_word tt (λ n. refl) (type_row heaviest ts a k h.1)
+result_row (ds.result p ts a k) h = row_word tt (λ n. refl) (type_row greatest_weight ts a k h.1)
 
 def_starts : {ts : List Spelled} {f : FuncDef} → DerivesDef ts f → AreSound ts → Starts 0 (lines.def_lines f)
 def_starts (ds.def p q r s t x us xs rs a bs ss k l b) h =

@@ -47,7 +47,7 @@ abbrev mutual
   stmt_whats (stmt.print p es) = what.Mark mark.Print ∷ what.Open ∷ (map what_of (exprs_tokens es) ++ (what.Close ∷ newline ∷ []))
   stmt_whats (stmt.assign w o e) = what.Name w.text ∷ assign_whats o e
   stmt_whats (stmt.write o w e) =
-      map what_of (placed 7 o (expr_tokens o)) ++ (what.Dot ∷ what.Name w.text ∷ what.Mark mark.Equals ∷ (map what_of (expr_tokens e) ++ newline ∷ []))
+      map what_of (placed 8 o (expr_tokens o)) ++ (what.Dot ∷ what.Name w.text ∷ what.Mark mark.Equals ∷ (map what_of (expr_tokens e) ++ newline ∷ []))
   stmt_whats (stmt.start w p f es) =
       what.Name w.text ∷ what.Mark mark.Equals ∷ what.Mark mark.Start ∷ what.Open
       ∷ (map what_of (expr_tokens f ++ more_exprs_tokens es) ++ (what.Close ∷ newline ∷ []))

@@ -4,11 +4,11 @@ use Rattle.std.specs.Str.{IsUtf8}
 use Rattle.mono_syntax.specs.declared.tree.Script.{Script}
 use Rattle.spelled_tokens.specs.SpelledTokens.{all_spelled}
 use Rattle.token_lines.specs.Back.{LexesAs}
-use Rattle.token_lines.specs.Lines.{lines_text, laid}
+use Rattle.token_lines.specs.Lines.{lines_text, whats_of_lines}
 use Rattle.token_lines.specs.Writable.{AreLines}
 use Rattle.token_lines.proofs.LinesLex.{lines_utf8, lines_lex}
 use Rattle.token_lines.proofs.Sound.{sound_tokens}
-use Rattle.tree_print.specs.Reading.{IsGrammatical, ReadsBack}
+use Rattle.tree_print.specs.ReadsBack.{IsGrammatical, ReadsBack}
 use Rattle.tree_print.specs.ScriptLines.{script_lines}
 use Rattle.tree_print.proofs.LinesAre.{lines_are}
 use Rattle.tree_print.proofs.ScriptBack.{reads_lines}
@@ -24,7 +24,7 @@ printed_utf8 s g = lines_utf8 0 (script_lines s) (lines_of s g)
 pub reads_back : (s : Script) → IsGrammatical s → ReadsBack (lines_text (script_lines s)) s
 reads_back s g =
     let text : List ℕ = lines_text (script_lines s) in
-    let l : LexesAs text (laid 0 (script_lines s)) = lines_lex (script_lines s) (lines_of s g) in
+    let l : LexesAs text (whats_of_lines 0 (script_lines s)) = lines_lex (script_lines s) (lines_of s g) in
     let r = reads_lines (all_spelled g.source g.has_tree.tokens) s g.has_tree.derives (all_spelled text l.tokens) l.are in
     record {
       tree = r.0;

@@ -7,7 +7,7 @@ use Rattle.spelled_tokens.specs.declared.token.What.TheVariants as what
 use Rattle.token_lines.specs.declared.printed.Printed.{Printed}
 use Rattle.token_lines.specs.declared.printed.Printed.TheVariants.{Plain}
 use Rattle.token_lines.specs.Tokens.{what_of}
-use Rattle.token_lines.specs.Writable.{IsSound, IsWritable, opened_by, open_behind}
+use Rattle.token_lines.specs.Writable.{IsSound, IsWritable, opened_by, open_after}
 
 -- ---- tokens of the grammar that are all sound
 
@@ -34,14 +34,14 @@ writable_together [] ys h k = k
 writable_together (x ∷ xs) ys h k = (h.0, writable_together xs ys h.1 k)
 
 -- the brackets that are open behind two lists are those of the second, behind the first
-open_together : (n : ℕ) (xs ys : List Printed) → open_behind n (xs ++ ys) ≡ open_behind (open_behind n xs) ys
+open_together : (n : ℕ) (xs ys : List Printed) → open_after n (xs ++ ys) ≡ open_after (open_after n xs) ys
 open_together n [] ys = refl
 open_together n (x ∷ xs) ys = open_together (opened_by n (what_of x)) xs ys
 
 -- tokens that can be written, and that close so many brackets more than they open
 pub record IsRow (k : ℕ) (ts : List Printed) : Type 0 where
   pub writable : AreWritable ts
-  pub closed : (m n : ℕ) → m ≡ k + n → open_behind m ts ≡ n
+  pub closed : (m n : ℕ) → m ≡ k + n → open_after m ts ≡ n
 
 -- no token closes no bracket
 pub row_end : IsRow 0 []

@@ -8,7 +8,7 @@ use Rattle.spelled_tokens.specs.declared.token.Spelled.{Spelled}
 use Rattle.spelled_tokens.specs.declared.token.What.TheVariants as what
 use Rattle.spelled_tokens.specs.SpelledTokens.{sign}
 use Rattle.token_lines.specs.Back.{whats}
-use Rattle.token_lines.specs.Lines.{laid}
+use Rattle.token_lines.specs.Lines.{whats_of_lines}
 use Rattle.parse_script.specs.Script as sc
 use Rattle.parse_script.specs.Script.{DerivesItem, DerivesItems, DerivesWhole}
 use Rattle.tree_print.specs.Placeless.{bare_item, bare_items, IsSameButPlaces}
@@ -54,6 +54,6 @@ script_back ts s (sc.script p vs is d) us e =
     )
 
 -- tokens that are those of a script's printed lines have the script's tree, but for places
-pub reads_lines : (ts : List Spelled) (s : Script) → DerivesWhole ts s → (us : List Spelled) → whats us ≡ laid 0 (script_lines s)
+pub reads_lines : (ts : List Spelled) (s : Script) → DerivesWhole ts s → (us : List Spelled) → whats us ≡ whats_of_lines 0 (script_lines s)
     → (t : Script) × DerivesWhole us t × IsSameButPlaces t s
 reads_lines ts s d us e = script_back ts s d us (e ∙ laid_script s (full_script ts s d))

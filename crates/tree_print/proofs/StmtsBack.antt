@@ -21,7 +21,8 @@ use Rattle.token_lines.specs.Tokens.{what_of}
 use Rattle.parse_expr.specs.Grammar.{Derives, DerivesArgs, postfix, IsExpr}
 use Rattle.parse_expr.specs.Types.{IsType, word}
 use Rattle.parse_script.specs.Statements as st
-use Rattle.parse_script.specs.Statements.{heaviest, deepest, branch, DerivesStmt, DerivesTail, DerivesBlock, DerivesStmts}
+use Rattle.mono_syntax.specs.Limits.{greatest_weight, most_blocks}
+use Rattle.parse_script.specs.Statements.{branch, DerivesStmt, DerivesTail, DerivesBlock, DerivesStmts}
 use Rattle.tree_print.specs.Brackets.{ann_tokens, expr_tokens, exprs_tokens, placed}
 use Rattle.tree_print.specs.Placeless.{nowhere, bare_expr, bare_exprs, bare_stmt, bare_stmts, bare_branches, bare_else}
 use Rattle.tree_print.proofs.Splits.{split_whats, first_what, no_whats}
@@ -58,20 +59,20 @@ bare_give_back i d p us h e =
     let b = only a.1 newline a.3 in
     (stmt.give a.0 None, subst (λ (l : List Spelled). DerivesStmt i d l (stmt.give a.0 None)) (sym (behind a.2 b.1)) (st.give_none d a.0 b.0 h), refl)
 
-give_back : (i : Bool) (d : ℕ) (p : Place) (ts : List Spelled) (x : Expr) (us : List Spelled) → i ≡ true → IsExpr heaviest ts x
+give_back : (i : Bool) (d : ℕ) (p : Place) (ts : List Spelled) (x : Expr) (us : List Spelled) → i ≡ true → IsExpr greatest_weight ts x
     → whats us ≡ stmt_whats (stmt.give p (Some x)) → StmtBack i d us (stmt.give p (Some x))
 give_back i d p ts x us h k e =
     let xs : List What = map what_of (expr_tokens x) in
     let a = first_what us (what.Mark mark.Return) (xs ++ newline ∷ []) e in
     let b = part a.1 xs newline [] a.3 in
-    let f = expr_back heaviest ts x k b.front b.fronts in (
+    let f = expr_back greatest_weight ts x k b.front b.fronts in (
       stmt.give a.0 (Some f.0),
       subst (λ (l : List Spelled). DerivesStmt i d l (stmt.give a.0 (Some f.0))) (sym (behind a.2 (further b.front (tok newline b.place) b.is (no_whats b.back b.backs))))
           (st.give d a.0 b.place b.front f.0 h f.1),
       ap (λ (y : Expr). stmt.give nowhere (Some y)) f.2,
     )
 
-print_back : (i : Bool) (d : ℕ) (p : Place) (ts : List Spelled) (w : ℕ) (es : List Expr) (us : List Spelled) → DerivesArgs ts w es → w ≤ heaviest
+print_back : (i : Bool) (d : ℕ) (p : Place) (ts : List Spelled) (w : ℕ) (es : List Expr) (us : List Spelled) → DerivesArgs ts w es → w ≤ greatest_weight
     → whats us ≡ stmt_whats (stmt.print p (exprs es)) → StmtBack i d us (stmt.print p (exprs es))
 print_back i d p ts w es us k h e =
     let xs : List What = map what_of (exprs_tokens (exprs es)) in
@@ -82,18 +83,18 @@ print_back i d p ts w es us k h e =
     let f = args_back ts w es k c.front c.fronts in (
       stmt.print b.0 (exprs f.0),
       subst (λ (l : List Spelled). DerivesStmt i d l (stmt.print b.0 (exprs f.0))) (sym (behind a.2 (behind b.2 (further c.front (tok what.Close c.place) c.is n.1))))
-          (st.print d a.0 b.0 c.place n.0 c.front f.1 f.0 f.2 (lighter f.1 w heaviest f.3 h)),
+          (st.print d a.0 b.0 c.place n.0 c.front f.1 f.0 f.2 (lighter f.1 w greatest_weight f.3 h)),
       ap (λ y. stmt.print nowhere y) f.4,
     )
 
-assign_back : (i : Bool) (d : ℕ) (p : Place) (x : List ℕ) (ts : List Spelled) (y : Expr) (us : List Spelled) → IsExpr heaviest ts y
+assign_back : (i : Bool) (d : ℕ) (p : Place) (x : List ℕ) (ts : List Spelled) (y : Expr) (us : List Spelled) → IsExpr greatest_weight ts y
     → whats us ≡ stmt_whats (stmt.assign (word x p) None y) → StmtBack i d us (stmt.assign (word x p) None y)
 assign_back i d p x ts y us k e =
     let ys : List What = map what_of (expr_tokens y) in
     let a = first_what us (what.Name x) (what.Mark mark.Equals ∷ (ys ++ newline ∷ [])) e in
     let b = first_what a.1 (what.Mark mark.Equals) (ys ++ newline ∷ []) a.3 in
     let c = part b.1 ys newline [] b.3 in
-    let f = expr_back heaviest ts y k c.front c.fronts in (
+    let f = expr_back greatest_weight ts y k c.front c.fronts in (
       stmt.assign (word x a.0) None f.0,
       subst (λ (l : List Spelled). DerivesStmt i d l (stmt.assign (word x a.0) None f.0))
           (sym (behind a.2 (behind b.2 (further c.front (tok newline c.place) c.is (no_whats c.back c.backs)))))
@@ -101,8 +102,8 @@ assign_back i d p x ts y us k e =
       ap (λ (z : Expr). stmt.assign (word x nowhere) None z) f.2,
     )
 
-declare_back : (i : Bool) (d : ℕ) (p : Place) (x : List ℕ) (vs : List Spelled) (t : Ann) (ts : List Spelled) (y : Expr) (us : List Spelled) → IsType heaviest vs t
-    → IsExpr heaviest ts y → whats us ≡ stmt_whats (stmt.assign (word x p) (Some t) y) → StmtBack i d us (stmt.assign (word x p) (Some t) y)
+declare_back : (i : Bool) (d : ℕ) (p : Place) (x : List ℕ) (vs : List Spelled) (t : Ann) (ts : List Spelled) (y : Expr) (us : List Spelled) → IsType greatest_weight vs t
+    → IsExpr greatest_weight ts y → whats us ≡ stmt_whats (stmt.assign (word x p) (Some t) y) → StmtBack i d us (stmt.assign (word x p) (Some t) y)
 declare_back i d p x vs t ts y us h k e =
     let xs : List What = map what_of (ann_tokens t) in
     let ys : List What = map what_of (expr_tokens y) in
@@ -110,8 +111,8 @@ declare_back i d p x vs t ts y us h k e =
     let b = first_what a.1 (what.Mark mark.Colon) (xs ++ (what.Mark mark.Equals ∷ (ys ++ newline ∷ []))) a.3 in
     let c = part b.1 xs (what.Mark mark.Equals) (ys ++ newline ∷ []) b.3 in
     let n = part c.back ys newline [] c.backs in
-    let g = type_back heaviest vs t h c.front c.fronts in
-    let f = expr_back heaviest ts y k n.front n.fronts in (
+    let g = type_back greatest_weight vs t h c.front c.fronts in
+    let f = expr_back greatest_weight ts y k n.front n.fronts in (
       stmt.assign (word x a.0) (Some g.0) f.0,
       subst (λ (l : List Spelled). DerivesStmt i d l (stmt.assign (word x a.0) (Some g.0) f.0))
           (sym (behind a.2 (behind b.2 (further c.front (sign mark.Equals c.place) c.is (further n.front (tok newline n.place) n.is (no_whats n.back n.backs))))))
@@ -120,26 +121,26 @@ declare_back i d p x vs t ts y us h k e =
     )
 
 write_back : (i : Bool) (d : ℕ) (p : Place) (x : List ℕ) (vs : List Spelled) (w : ℕ) (o : Expr) (ts : List Spelled) (y : Expr) (us : List Spelled)
-    → Derives postfix vs w o → w ≤ heaviest → IsExpr heaviest ts y → whats us ≡ stmt_whats (stmt.write o (word x p) y) → StmtBack i d us (stmt.write o (word x p) y)
+    → Derives postfix vs w o → w ≤ greatest_weight → IsExpr greatest_weight ts y → whats us ≡ stmt_whats (stmt.write o (word x p) y) → StmtBack i d us (stmt.write o (word x p) y)
 write_back i d p x vs w o ts y us h k l e =
-    let xs : List What = map what_of (placed 7 o (expr_tokens o)) in
+    let xs : List What = map what_of (placed 8 o (expr_tokens o)) in
     let ys : List What = map what_of (expr_tokens y) in
     let a = part us xs what.Dot (what.Name x ∷ what.Mark mark.Equals ∷ (ys ++ newline ∷ [])) e in
     let b = first_what a.back (what.Name x) (what.Mark mark.Equals ∷ (ys ++ newline ∷ [])) a.backs in
     let c = first_what b.1 (what.Mark mark.Equals) (ys ++ newline ∷ []) b.3 in
     let n = part c.1 ys newline [] c.3 in
     let g = postfix_back vs w o h a.front a.fronts in
-    let f = expr_back heaviest ts y l n.front n.fronts in (
+    let f = expr_back greatest_weight ts y l n.front n.fronts in (
       stmt.write g.0 (word x b.0) f.0,
       subst (λ (l : List Spelled). DerivesStmt i d l (stmt.write g.0 (word x b.0) f.0))
           (sym (further a.front (tok what.Dot a.place) a.is (behind b.2 (behind c.2 (further n.front (tok newline n.place) n.is (no_whats n.back n.backs))))))
-          (st.write d a.place b.0 c.0 n.place x a.front g.1 g.0 n.front f.0 g.2 (lighter g.1 w heaviest g.3 k) f.1),
+          (st.write d a.place b.0 c.0 n.place x a.front g.1 g.0 n.front f.0 g.2 (lighter g.1 w greatest_weight g.3 k) f.1),
       λ j. stmt.write (g.4 j) (word x nowhere) (f.2 j),
     )
 
 -- the arguments of `start`: there is a first one
 start_args : (i : Bool) (d : ℕ) (a b c s : Place) (n m : Place) (x : List ℕ) (ts : List Spelled) (v : ℕ) (fs : List Expr) (y : Expr) (es : List Expr) (us : List Spelled)
-    → DerivesArgs ts v fs → v ≤ heaviest → bare_exprs (exprs fs) ≡ more_exprs (bare_expr y) (bare_exprs (exprs es))
+    → DerivesArgs ts v fs → v ≤ greatest_weight → bare_exprs (exprs fs) ≡ more_exprs (bare_expr y) (bare_exprs (exprs es))
     → us ≡ tok (what.Name x) a ∷ sign mark.Equals b ∷ sign mark.Start c ∷ tok what.Open s ∷ (ts ++ (tok what.Close n ∷ sign mark.Newline m ∷ []))
     → (p q : Place) → StmtBack i d us (stmt.start (word x p) q y (exprs es))
 start_args i d a b c s n m x ts v [] y es us k h e u p q = absurd cc
@@ -152,7 +153,7 @@ start_args i d a b c s n m x ts v (f ∷ fs) y es us k h e u p q =
     )
 
 start_back : (i : Bool) (d : ℕ) (p q : Place) (x : List ℕ) (ts : List Spelled) (w : ℕ) (y : Expr) (es : List Expr) (us : List Spelled) → DerivesArgs ts w (y ∷ es)
-    → w ≤ heaviest → whats us ≡ stmt_whats (stmt.start (word x p) q y (exprs es)) → StmtBack i d us (stmt.start (word x p) q y (exprs es))
+    → w ≤ greatest_weight → whats us ≡ stmt_whats (stmt.start (word x p) q y (exprs es)) → StmtBack i d us (stmt.start (word x p) q y (exprs es))
 start_back i d p q x ts w y es us k h e =
     let xs : List What = map what_of (exprs_tokens (exprs (y ∷ es))) in
     let a = first_what us (what.Name x) (what.Mark mark.Equals ∷ what.Mark mark.Start ∷ what.Open ∷ (xs ++ (what.Close ∷ newline ∷ []))) e in
@@ -162,13 +163,13 @@ start_back i d p q x ts w y es us k h e =
     let n = part s.1 xs what.Close (newline ∷ []) s.3 in
     let m = only n.back newline n.backs in
     let f = args_back ts w (y ∷ es) k n.front n.fronts in
-    start_args i d a.0 b.0 c.0 s.0 n.place m.0 x n.front f.1 f.0 y es us f.2 (lighter f.1 w heaviest f.3 h) f.4
+    start_args i d a.0 b.0 c.0 s.0 n.place m.0 x n.front f.1 f.0 y es us f.2 (lighter f.1 w greatest_weight f.3 h) f.4
     (behind a.2 (behind b.2 (behind c.2 (behind s.2 (further n.front (tok what.Close n.place) n.is m.1))))) p q
 
-plain_back : (i : Bool) (d : ℕ) (ts : List Spelled) (y : Expr) (us : List Spelled) → IsExpr heaviest ts y → whats us ≡ stmt_whats (stmt.plain y) → StmtBack i d us (stmt.plain y)
+plain_back : (i : Bool) (d : ℕ) (ts : List Spelled) (y : Expr) (us : List Spelled) → IsExpr greatest_weight ts y → whats us ≡ stmt_whats (stmt.plain y) → StmtBack i d us (stmt.plain y)
 plain_back i d ts y us k e =
     let n = part us (map what_of (expr_tokens y)) newline [] e in
-    let f = expr_back heaviest ts y k n.front n.fronts in (
+    let f = expr_back greatest_weight ts y k n.front n.fronts in (
       stmt.plain f.0,
       subst (λ (l : List Spelled). DerivesStmt i d l (stmt.plain f.0)) (sym (further n.front (tok newline n.place) n.is (no_whats n.back n.backs)))
           (st.plain d n.place n.front f.0 f.1),
@@ -185,16 +186,16 @@ record HeadBack (m : Mark) (x : Expr) (us : List Spelled) (ws : List What) : Typ
   pub colon : Place
   pub back : List Spelled
   pub is : us ≡ sign m place ∷ (tokens ++ (sign mark.Colon colon ∷ back))
-  pub derives : IsExpr heaviest tokens condition
+  pub derives : IsExpr greatest_weight tokens condition
   pub same : bare_expr condition ≡ bare_expr x
   pub backs : whats back ≡ ws
 
-head_back : (m : Mark) (ts : List Spelled) (x : Expr) (us : List Spelled) (ws : List What) → IsExpr heaviest ts x → whats us ≡ head_whats m x ws → HeadBack m x us ws
+head_back : (m : Mark) (ts : List Spelled) (x : Expr) (us : List Spelled) (ws : List What) → IsExpr greatest_weight ts x → whats us ≡ head_whats m x ws → HeadBack m x us ws
 head_back m ts x us ws k e =
     let xs : List What = map what_of (expr_tokens x) in
     let a = first_what us (what.Mark m) (xs ++ (what.Mark mark.Colon ∷ ws)) e in
     let b = part a.1 xs (what.Mark mark.Colon) ws a.3 in
-    let f = expr_back heaviest ts x k b.front b.fronts in
+    let f = expr_back greatest_weight ts x k b.front b.fronts in
     record {
       place = a.0;
       tokens = b.front;

@@ -13,7 +13,8 @@ use Rattle.parse_expr.specs.Grammar as g
 use Rattle.parse_expr.specs.Grammar.{Form, Derives, DerivesArgs, IsExpr}
 use Rattle.parse_expr.specs.Types as ty
 use Rattle.parse_expr.specs.Types.{DerivesType, DerivesTypes, DerivesTypeRow, IsType}
-use Rattle.tree_print.specs.Brackets.{level_of, left_level, right_level, ann_tokens, anns_tokens, more_anns_tokens, bracketed, placed, expr_tokens, exprs_tokens, more_exprs_tokens}
+use Rattle.parse_expr.specs.Precedence.{op_left, op_right}
+use Rattle.tree_print.specs.Brackets.{level_of, ann_tokens, anns_tokens, more_anns_tokens, bracketed, placed, expr_tokens, exprs_tokens, more_exprs_tokens}
 use Rattle.tree_print.proofs.Rows.{AreSound, front, back, IsRow, row_end, row_word, row_open, row_close, row_open_square, row_close_square, row_together, IsSome, some_word, some_before}
 
 -- ---- types
@@ -62,35 +63,35 @@ two_parts : (l m : ℕ) (a b : expr.Expr) (t : Printed) → IsRow 0 (expr_tokens
     → IsRow 0 (placed l a (expr_tokens a) ++ (t ∷ placed m b (expr_tokens b)))
 two_parts l m a b t h k j = row_together (placed_row l a _ h) (row_together k (placed_row m b _ j))
 
-sign_row : (o : Op) → IsRow 0 (Plain (what.Sign o) ∷ [])
+sign_row : (o : Op) → IsRow 0 (Plain (what.Operator o) ∷ [])
 sign_row o = row_word tt (λ n. refl) row_end
 
 mutual
   pub expr_row : {L : Form} {ts : List Spelled} {w : ℕ} {e : expr.Expr} → Derives L ts w e → AreSound ts → IsRow 0 (expr_tokens e)
   expr_row (g.whole_and ts w e d) h = expr_row d h
   expr_row (g.or p ts us w v a b d k) h =
-      two_parts 0 1 a b (Plain what.Or) (expr_row d (front ts _ h)) (row_word tt (λ n. refl) row_end) (expr_row k (back ts _ h).1)
+      two_parts 1 2 a b (Plain what.Or) (expr_row d (front ts _ h)) (row_word tt (λ n. refl) row_end) (expr_row k (back ts _ h).1)
   expr_row (g.and_not ts w e d) h = expr_row d h
   expr_row (g.and p ts us w v a b d k) h =
-      two_parts 1 2 a b (Plain what.And) (expr_row d (front ts _ h)) (row_word tt (λ n. refl) row_end) (expr_row k (back ts _ h).1)
+      two_parts 2 3 a b (Plain what.And) (expr_row d (front ts _ h)) (row_word tt (λ n. refl) row_end) (expr_row k (back ts _ h).1)
   expr_row (g.not_comparison ts w e d) h = expr_row d h
-  expr_row (g.not p ts w e d) h = row_word tt (λ n. refl) (placed_row 2 e _ (expr_row d h.1))
+  expr_row (g.not p ts w e d) h = row_word tt (λ n. refl) (placed_row 3 e _ (expr_row d h.1))
   expr_row (g.comparison_sum ts w e d) h = expr_row d h
   expr_row (g.compare o p ts us w v a b q d k) h =
-      two_parts (left_level o) (right_level o) a b (Plain (what.Sign o)) (expr_row d (front ts _ h)) (sign_row o) (expr_row k (back ts _ h).1)
+      two_parts (op_left o) (op_right o) a b (Plain (what.Operator o)) (expr_row d (front ts _ h)) (sign_row o) (expr_row k (back ts _ h).1)
   expr_row (g.sum_term ts w e d) h = expr_row d h
   expr_row (g.add o p ts us w v a b q d k) h =
-      two_parts (left_level o) (right_level o) a b (Plain (what.Sign o)) (expr_row d (front ts _ h)) (sign_row o) (expr_row k (back ts _ h).1)
+      two_parts (op_left o) (op_right o) a b (Plain (what.Operator o)) (expr_row d (front ts _ h)) (sign_row o) (expr_row k (back ts _ h).1)
   expr_row (g.term_factor ts w e d) h = expr_row d h
   expr_row (g.multiply o p ts us w v a b q d k) h =
-      two_parts (left_level o) (right_level o) a b (Plain (what.Sign o)) (expr_row d (front ts _ h)) (sign_row o) (expr_row k (back ts _ h).1)
+      two_parts (op_left o) (op_right o) a b (Plain (what.Operator o)) (expr_row d (front ts _ h)) (sign_row o) (expr_row k (back ts _ h).1)
   expr_row (g.factor_postfix ts w e d) h = expr_row d h
-  expr_row (g.negate p ts w e d) h = row_word tt (λ n. refl) (placed_row 6 e _ (expr_row d h.1))
+  expr_row (g.negate p ts w e d) h = row_word tt (λ n. refl) (placed_row 7 e _ (expr_row d h.1))
   expr_row (g.postfix_atom ts w e d) h = expr_row d h
   expr_row (g.attribute p q x ts w e d) h =
-      row_together (placed_row 7 e _ (expr_row d (front ts _ h))) (row_word tt (λ n. refl) (row_word (back ts _ h).1.0 (λ n. refl) row_end))
+      row_together (placed_row 8 e _ (expr_row d (front ts _ h))) (row_word tt (λ n. refl) (row_word (back ts _ h).1.0 (λ n. refl) row_end))
   expr_row (g.call p q ts us w v e es d k) h =
-      row_together (placed_row 7 e _ (expr_row d (front ts _ h))) (row_open (row_together (args_row k (front us _ (back ts _ h).1)).0 (row_close row_end)))
+      row_together (placed_row 8 e _ (expr_row d (front ts _ h))) (row_open (row_together (args_row k (front us _ (back ts _ h).1)).0 (row_close row_end)))
   expr_row (g.name p x) h = row_word h.0 (λ n. refl) row_end
   expr_row (g.number p n) h = row_word h.0 (λ n. refl) row_end
   expr_row (g.text p t) h = row_word h.0 (λ n. refl) row_end
@@ -125,10 +126,10 @@ expr_some (expr.truth p b) = some_word
 expr_some (expr.nil p) = some_word
 expr_some (expr.neg p a) = some_word
 expr_some (expr.negation p a) = some_word
-expr_some (expr.binary o p a b) = some_before (placed (left_level o) a (expr_tokens a)) _ _
-expr_some (expr.both a b) = some_before (placed 1 a (expr_tokens a)) _ _
-expr_some (expr.either a b) = some_before (placed 0 a (expr_tokens a)) _ _
-expr_some (expr.read a w) = some_before (placed 7 a (expr_tokens a)) _ _
-expr_some (expr.call p a es) = some_before (placed 7 a (expr_tokens a)) _ _
+expr_some (expr.binary o p a b) = some_before (placed (op_left o) a (expr_tokens a)) _ _
+expr_some (expr.both a b) = some_before (placed 2 a (expr_tokens a)) _ _
+expr_some (expr.either a b) = some_before (placed 1 a (expr_tokens a)) _ _
+expr_some (expr.read a w) = some_before (placed 8 a (expr_tokens a)) _ _
+expr_some (expr.call p a es) = some_before (placed 8 a (expr_tokens a)) _ _
 expr_some (expr.cast p t a) = some_word
 expr_some (expr.join p w) = some_word

@@ -3,7 +3,6 @@ use Rattle.std.proofs.Common.{ℕ, suc, ◌<◌, ◌≤◌, ◌≡◌, max, Bool
 use Rattle.std.proofs.Math.Nat.{le-max_left, le-max_right, max-le}
 use Rattle.std.proofs.lemmas.Bool.{lt-ltb, ltb-true, le-ltb}
 use Rattle.mono_syntax.specs.declared.leaf.Op.{Op}
-use Rattle.mono_syntax.specs.declared.leaf.Op.TheVariants as op
 use Rattle.mono_syntax.specs.declared.leaf.Place.{Place}
 use Rattle.mono_syntax.specs.Ann.{Ann}
 use Rattle.mono_syntax.specs.Expr as tree
@@ -13,7 +12,8 @@ use Rattle.spelled_tokens.specs.declared.token.Spelled.{Spelled}
 use Rattle.parse_expr.specs.Types.{DerivesType}
 use Rattle.parse_expr.specs.Grammar as g
 use Rattle.parse_expr.specs.Grammar.{Form, Derives, DerivesArgs, Group, comparing, adding, multiplying, group}
-use Rattle.tree_print.specs.Brackets.{level_of, op_level, left_level, right_level}
+use Rattle.parse_expr.specs.Precedence.{level_of_form, group_left, group_whole, group_right, op_left, op_whole, op_right}
+use Rattle.tree_print.specs.Brackets.{level_of}
 use Rattle.tree_print.proofs.TypesBack.{type_weight, type_weighs}
 
 -- one more in brackets
@@ -27,13 +27,13 @@ lifted l e w = bumped (nat_lt (level_of e) l) w
 
 abbrev mutual
   pub weight : Expr → ℕ
-  weight (tree.neg p a) = suc (lifted 6 a (weight a))
-  weight (tree.negation p a) = suc (lifted 2 a (weight a))
-  weight (tree.binary o p a b) = suc (max (lifted (left_level o) a (weight a)) (lifted (right_level o) b (weight b)))
-  weight (tree.both a b) = suc (max (lifted 1 a (weight a)) (lifted 2 b (weight b)))
-  weight (tree.either a b) = suc (max (lifted 0 a (weight a)) (lifted 1 b (weight b)))
-  weight (tree.read a w) = suc (lifted 7 a (weight a))
-  weight (tree.call p a es) = suc (max (lifted 7 a (weight a)) (exprs_weight es))
+  weight (tree.neg p a) = suc (lifted 7 a (weight a))
+  weight (tree.negation p a) = suc (lifted 3 a (weight a))
+  weight (tree.binary o p a b) = suc (max (lifted (op_left o) a (weight a)) (lifted (op_right o) b (weight b)))
+  weight (tree.both a b) = suc (max (lifted 2 a (weight a)) (lifted 3 b (weight b)))
+  weight (tree.either a b) = suc (max (lifted 1 a (weight a)) (lifted 2 b (weight b)))
+  weight (tree.read a w) = suc (lifted 8 a (weight a))
+  weight (tree.call p a es) = suc (max (lifted 8 a (weight a)) (exprs_weight es))
   weight (tree.cast p t a) = suc (max (type_weight t) (weight a))
   weight _ = 1
 
@@ -67,18 +67,6 @@ looser n l m w h = bumped_grows _ _ w (λ q. let k : n < l = ltb-true n l q in l
 at_own : (n l w : ℕ) → l ≤ n → bumped (nat_lt n l) w ≡ w
 at_own n l w h = rw (le-ltb n l h) refl
 
--- the level of a form
-abbrev pub level : Form → ℕ
-level g.whole = 0
-level g.and_expr = 1
-level g.not_expr = 2
-level g.comparison = 3
-level g.sum = 4
-level g.term = 5
-level g.factor = 6
-level g.postfix = 7
-level g.atom = 8
-
 down_to : (l m : ℕ) (e : Expr) (w : ℕ) → l ≤ m → weight_at m e ≤ w → weight_at l e ≤ w
 down_to l m e w h k = let j = looser (level_of e) l m (weight e) h in omega arith
 
@@ -95,106 +83,52 @@ max_both a b v w h k =
     let y = le-max_right v w in
     max-le (omega arith) (omega arith)
 
-binary_light : (o : Op) (p : Place) (a b : Expr) (v w m l r : ℕ) → op_level o ≡ m → left_level o ≡ l → right_level o ≡ r → weight_at l a ≤ v → weight_at r b ≤ w
+binary_light : (o : Op) (p : Place) (a b : Expr) (v w m l r : ℕ) → op_whole o ≡ m → op_left o ≡ l → op_right o ≡ r → weight_at l a ≤ v → weight_at r b ≤ w
     → weight_at m (tree.binary o p a b) ≤ suc (max v w)
 binary_light o p a b v w m l r x y z h k =
-    let h2 : weight_at (left_level o) a ≤ v = subst (λ n. weight_at n a ≤ v) (sym y) h in
-    let k2 : weight_at (right_level o) b ≤ w = subst (λ n. weight_at n b ≤ w) (sym z) k in
-    let j : weight_at m (tree.binary o p a b) ≡ weight (tree.binary o p a b) = at_own (op_level o) m _ (omega arith) in
+    let h2 : weight_at (op_left o) a ≤ v = subst (λ n. weight_at n a ≤ v) (sym y) h in
+    let k2 : weight_at (op_right o) b ≤ w = subst (λ n. weight_at n b ≤ w) (sym z) k in
+    let j : weight_at m (tree.binary o p a b) ≡ weight (tree.binary o p a b) = at_own (op_whole o) m _ (omega arith) in
     let i = max_two _ _ v w h2 k2 in
     omega arith
 
-abbrev own_of : Group → ℕ
-own_of comparing = 3
-own_of adding = 4
-own_of multiplying = 5
-
-abbrev left_of : Group → ℕ
-left_of comparing = 4
-left_of adding = 4
-left_of multiplying = 5
-
-abbrev right_of : Group → ℕ
-right_of comparing = 4
-right_of adding = 5
-right_of multiplying = 6
-
-own_by : (o : Op) → op_level o ≡ own_of (group o)
-own_by op.Add = refl
-own_by op.Sub = refl
-own_by op.Mul = refl
-own_by op.Div = refl
-own_by op.Mod = refl
-own_by op.Lt = refl
-own_by op.Le = refl
-own_by op.Gt = refl
-own_by op.Ge = refl
-own_by op.Eq = refl
-own_by op.Ne = refl
-
-left_by : (o : Op) → left_level o ≡ left_of (group o)
-left_by op.Add = refl
-left_by op.Sub = refl
-left_by op.Mul = refl
-left_by op.Div = refl
-left_by op.Mod = refl
-left_by op.Lt = refl
-left_by op.Le = refl
-left_by op.Gt = refl
-left_by op.Ge = refl
-left_by op.Eq = refl
-left_by op.Ne = refl
-
-right_by : (o : Op) → right_level o ≡ right_of (group o)
-right_by op.Add = refl
-right_by op.Sub = refl
-right_by op.Mul = refl
-right_by op.Div = refl
-right_by op.Mod = refl
-right_by op.Lt = refl
-right_by op.Le = refl
-right_by op.Gt = refl
-right_by op.Ge = refl
-right_by op.Eq = refl
-right_by op.Ne = refl
-
 -- an operator's parts and whole are as light as its group says
-group_light : (o : Op) (c : Group) (p : Place) (a b : Expr) (v w : ℕ) → group o ≡ c → weight_at (left_of c) a ≤ v → weight_at (right_of c) b ≤ w
-    → weight_at (own_of c) (tree.binary o p a b) ≤ suc (max v w)
+group_light : (o : Op) (c : Group) (p : Place) (a b : Expr) (v w : ℕ) → group o ≡ c → weight_at (group_left c) a ≤ v → weight_at (group_right c) b ≤ w
+    → weight_at (group_whole c) (tree.binary o p a b) ≤ suc (max v w)
 group_light o c p a b v w q h k =
-    binary_light o p a b v w (own_of c) (left_of c) (right_of c) (own_by o ∙ ap own_of q) (left_by o ∙ ap left_of q) (right_by o ∙ ap right_of q) h k
+    binary_light o p a b v w (group_whole c) (group_left c) (group_right c) (ap group_whole q) (ap group_left q) (ap group_right q) h k
 
 -- ---- minimal brackets weigh no more than those that are there
 
-bracket_light : (e : Expr) (w : ℕ) → weight_at 0 e ≤ w → weight_at 8 e ≤ suc w
+bracket_light : (e : Expr) (w : ℕ) → weight_at 1 e ≤ w → weight_at 9 e ≤ suc w
 bracket_light e w h =
-    let k = bumped_least (nat_lt (level_of e) 0) (weight e) in
-    let j = bumped_most (nat_lt (level_of e) 8) (weight e) in
+    let k = bumped_least (nat_lt (level_of e) 1) (weight e) in
+    let j = bumped_most (nat_lt (level_of e) 9) (weight e) in
     omega arith
 
-pub bare_light : (e : Expr) (w : ℕ) → weight_at 0 e ≤ w → weight e ≤ w
-bare_light e w h = let k = bumped_least (nat_lt (level_of e) 0) (weight e) in omega arith
+pub bare_light : (e : Expr) (w : ℕ) → weight_at 1 e ≤ w → weight e ≤ w
+bare_light e w h = let k = bumped_least (nat_lt (level_of e) 1) (weight e) in omega arith
 
 type_light : {ts : List Spelled} {w : ℕ} {a : Ann} → DerivesType ts w a → type_weight a ≤ w
 type_light d = let h = type_weighs d in omega arith
 
 mutual
-  pub no_heavier : {L : Form} {ts : List Spelled} {w : ℕ} {e : Expr} → Derives L ts w e → weight_at (level L) e ≤ w
-  no_heavier (g.whole_and ts w e d) = down_to 0 1 e w (omega arith) (no_heavier d)
+  pub no_heavier : {L : Form} {ts : List Spelled} {w : ℕ} {e : Expr} → Derives L ts w e → weight_at (level_of_form L) e ≤ w
+  no_heavier (g.whole_and ts w e d) = down_to 1 2 e w (omega arith) (no_heavier d)
   no_heavier (g.or p ts us w v a b d f) = max_two _ _ w v (no_heavier d) (no_heavier f)
-  no_heavier (g.and_not ts w e d) = down_to 1 2 e w (omega arith) (no_heavier d)
+  no_heavier (g.and_not ts w e d) = down_to 2 3 e w (omega arith) (no_heavier d)
   no_heavier (g.and p ts us w v a b d f) = max_two _ _ w v (no_heavier d) (no_heavier f)
-  no_heavier (g.not_comparison ts w e d) = down_to 2 3 e w (omega arith) (no_heavier d)
+  no_heavier (g.not_comparison ts w e d) = down_to 3 4 e w (omega arith) (no_heavier d)
   no_heavier (g.not p ts w e d) = let h = no_heavier d in omega arith
-  no_heavier (g.comparison_sum ts w e d) = down_to 3 4 e w (omega arith) (no_heavier d)
+  no_heavier (g.comparison_sum ts w e d) = down_to 4 5 e w (omega arith) (no_heavier d)
   no_heavier (g.compare o p ts us w v a b q d f) = group_light o comparing p a b w v q (no_heavier d) (no_heavier f)
-  no_heavier (g.sum_term ts w e d) = down_to 4 5 e w (omega arith) (no_heavier d)
+  no_heavier (g.sum_term ts w e d) = down_to 5 6 e w (omega arith) (no_heavier d)
   no_heavier (g.add o p ts us w v a b q d f) = group_light o adding p a b w v q (no_heavier d) (no_heavier f)
-  no_heavier (g.term_factor ts w e d) = down_to 5 6 e w (omega arith) (no_heavier d)
+  no_heavier (g.term_factor ts w e d) = down_to 6 7 e w (omega arith) (no_heavier d)
   no_heavier (g.multiply o p ts us w v a b q d f) = group_light o multiplying p a b w v q (no_heavier d) (no_heavier f)
-  no_heavier (g.factor_postfix ts w e d) = down_to 6 7 e w (omega arith) (no_heavier d)
+  no_heavier (g.factor_postfix ts w e d) = down_to 7 8 e w (omega arith) (no_heavier d)
   no_heavier (g.negate p ts w e d) = let h = no_heavier d in omega arith
-  no_heavier (g.postfix_atom ts w e d) = down_to 7 8 e w (omega arith) (no_heavier d)
+  no_heavier (g.postfix_atom ts w e d) = down_to 8 9 e w (omega arith) (no_heavier d)
   no_heavier (g.attribute p q x ts w e d) = let h = no_heavier d in omega arith
   no_heavier (g.call p q ts us w v e es d a) = max_two _ _ w v (no_heavier d) (args_no_heavier a)
   no_heavier (g.name p x) = omega arith

@@ -1,11 +1,10 @@
 -- The tokens of types and expressions, with no more brackets than the tree needs.
 use Rattle.std.specs.Prelude.{ℕ, Bool, true, false, nat_lt, List, [], ◌∷◌, ◌++◌}
-use Rattle.mono_syntax.specs.declared.leaf.Op.{Op}
-use Rattle.mono_syntax.specs.declared.leaf.Op.TheVariants as op
 use Rattle.mono_syntax.specs.declared.leaf.Word.{Word}
 use Rattle.mono_syntax.specs.Ann.{Ann, ann, Form, dyn, int, bool, str, nil, class, fun, Anns, no_anns, more_anns}
 use Rattle.mono_syntax.specs.Expr as expr
 use Rattle.mono_syntax.specs.Expr.{Expr, Exprs, no_exprs, more_exprs}
+use Rattle.parse_expr.specs.Precedence.{op_left, op_whole, op_right}
 use Rattle.spelled_tokens.specs.declared.token.Mark.{Mark}
 use Rattle.spelled_tokens.specs.declared.token.Mark.TheVariants as mark
 use Rattle.spelled_tokens.specs.declared.token.What.TheVariants as what
@@ -43,41 +42,16 @@ abbrev mutual
   more_anns_tokens no_anns = []
   more_anns_tokens (more_anns a xs) = Plain what.Comma ∷ (ann_tokens a ++ more_anns_tokens xs)
 
--- How tightly an operator binds: comparisons, then sums, then products.
-abbrev pub op_level : Op → ℕ
-op_level op.Add = 4
-op_level op.Sub = 4
-op_level op.Mul = 5
-op_level op.Div = 5
-op_level op.Mod = 5
-op_level _ = 3
-
--- Chains group to the left, and a comparison has no comparison as its part.
-abbrev pub left_level : Op → ℕ
-left_level op.Mul = 5
-left_level op.Div = 5
-left_level op.Mod = 5
-left_level _ = 4
-
-abbrev pub right_level : Op → ℕ
-right_level op.Add = 5
-right_level op.Sub = 5
-right_level op.Mul = 6
-right_level op.Div = 6
-right_level op.Mod = 6
-right_level _ = 4
-
--- How tightly the outermost part of an expression binds: 0 `or`, 1 `and`, 2 `not`, 3 to 5 operators with two parts, 6 a minus in
--- front, 7 attributes and calls, 8 what stands alone.
+-- how tightly the outermost part of an expression binds, by the numbers of the grammar's forms
 abbrev pub level_of : Expr → ℕ
-level_of (expr.either a b) = 0
-level_of (expr.both a b) = 1
-level_of (expr.negation p a) = 2
-level_of (expr.binary o p a b) = op_level o
-level_of (expr.neg p a) = 6
-level_of (expr.read a w) = 7
-level_of (expr.call p a es) = 7
-level_of _ = 8
+level_of (expr.either a b) = 1
+level_of (expr.both a b) = 2
+level_of (expr.negation p a) = 3
+level_of (expr.binary o p a b) = op_whole o
+level_of (expr.neg p a) = 7
+level_of (expr.read a w) = 8
+level_of (expr.call p a es) = 8
+level_of _ = 9
 
 abbrev pub bracketed : Bool → List Printed → List Printed
 bracketed true ts = Plain what.Open ∷ (ts ++ Plain what.Close ∷ [])
@@ -95,14 +69,14 @@ abbrev mutual
   expr_tokens (expr.text p t) = Plain (what.Text t) ∷ []
   expr_tokens (expr.truth p b) = Plain (what.Bool b) ∷ []
   expr_tokens (expr.nil p) = Plain what.Nil ∷ []
-  expr_tokens (expr.neg p a) = Minus ∷ placed 6 a (expr_tokens a)
-  expr_tokens (expr.negation p a) = Plain what.Not ∷ placed 2 a (expr_tokens a)
+  expr_tokens (expr.neg p a) = Minus ∷ placed 7 a (expr_tokens a)
+  expr_tokens (expr.negation p a) = Plain what.Not ∷ placed 3 a (expr_tokens a)
   expr_tokens (expr.binary o p a b) =
-      placed (left_level o) a (expr_tokens a) ++ (Plain (what.Sign o) ∷ placed (right_level o) b (expr_tokens b))
-  expr_tokens (expr.both a b) = placed 1 a (expr_tokens a) ++ (Plain what.And ∷ placed 2 b (expr_tokens b))
-  expr_tokens (expr.either a b) = placed 0 a (expr_tokens a) ++ (Plain what.Or ∷ placed 1 b (expr_tokens b))
-  expr_tokens (expr.read a w) = placed 7 a (expr_tokens a) ++ (Plain what.Dot ∷ name w ∷ [])
-  expr_tokens (expr.call p a es) = placed 7 a (expr_tokens a) ++ (Plain what.Open ∷ (exprs_tokens es ++ Plain what.Close ∷ []))
+      placed (op_left o) a (expr_tokens a) ++ (Plain (what.Operator o) ∷ placed (op_right o) b (expr_tokens b))
+  expr_tokens (expr.both a b) = placed 2 a (expr_tokens a) ++ (Plain what.And ∷ placed 3 b (expr_tokens b))
+  expr_tokens (expr.either a b) = placed 1 a (expr_tokens a) ++ (Plain what.Or ∷ placed 2 b (expr_tokens b))
+  expr_tokens (expr.read a w) = placed 8 a (expr_tokens a) ++ (Plain what.Dot ∷ name w ∷ [])
+  expr_tokens (expr.call p a es) = placed 8 a (expr_tokens a) ++ (Plain what.Open ∷ (exprs_tokens es ++ Plain what.Close ∷ []))
   expr_tokens (expr.cast p t a) =
       Plain what.Cast ∷ Plain what.Open ∷ (ann_tokens t ++ (Plain what.Comma ∷ (expr_tokens a ++ Plain what.Close ∷ [])))
   expr_tokens (expr.join p w) = Plain what.Join ∷ Plain what.Open ∷ name w ∷ Plain what.Close ∷ []

@@ -40,7 +40,7 @@ simple_tokens stmt.pass = sign mark.Pass ∷ []
 simple_tokens (stmt.give p o) = give_tokens o
 simple_tokens (stmt.print p es) = sign mark.Print ∷ Plain what.Open ∷ (exprs_tokens es ++ Plain what.Close ∷ [])
 simple_tokens (stmt.assign w o e) = name w ∷ (type_tokens o ++ (sign mark.Equals ∷ expr_tokens e))
-simple_tokens (stmt.write o w e) = placed 7 o (expr_tokens o) ++ (Plain what.Dot ∷ name w ∷ sign mark.Equals ∷ expr_tokens e)
+simple_tokens (stmt.write o w e) = placed 8 o (expr_tokens o) ++ (Plain what.Dot ∷ name w ∷ sign mark.Equals ∷ expr_tokens e)
 simple_tokens (stmt.start w p f es) =
     name w ∷ sign mark.Equals ∷ sign mark.Start ∷ Plain what.Open ∷ (expr_tokens f ++ (more_exprs_tokens es ++ Plain what.Close ∷ []))
 simple_tokens (stmt.plain e) = expr_tokens e

@@ -1,67 +1,37 @@
 ghost use Rattle.std.specs.Prelude.{◌≡◌, ◌∷◌, ◌++◌, [], true, OnOk};
 ghost use Rattle.mono_syntax.specs.ExprView.{exprs};
+ghost use Rattle.parse_expr.specs.Precedence.{op_left, op_right};
 ghost use Rattle.token_lines.specs.declared.printed.Printed.TheVariants.{Plain};
 ghost use Rattle.spelled_tokens.specs.declared.token.What.TheVariants as what;
 ghost use Rattle.token_lines.specs.Sheets.{written};
-ghost use Rattle.tree_print.specs.Brackets.{ann_tokens, name, op_level, left_level, right_level, level_of, bracketed, placed, expr_tokens, exprs_tokens, more_exprs_tokens};
+ghost use Rattle.tree_print.specs.Brackets.{ann_tokens, name, level_of, bracketed, placed, expr_tokens, exprs_tokens, more_exprs_tokens};
 
 use crate::tokens::{put_name, put_what};
 use crate::types::put_ann;
 use mono_syntax::{Ann, Expr, ExprKind, Op, Word};
+use parse_expr::{op_left, op_right, op_whole};
 use spelled_tokens::What;
 use std::alloc::{AllocError, Global};
 use token_lines::{Page, Printed};
 
-/// How tightly an operator binds.
-fn op_level(op: Op) -> u8
-    ensures { result ≡ op_level op }
-{
-    match op {
-        Op::Add | Op::Sub => 4,
-        Op::Mul | Op::Div | Op::Mod => 5,
-        Op::Lt | Op::Le | Op::Gt | Op::Ge | Op::Eq | Op::Ne => 3,
-    }
-}
-
-/// The level that is wanted to the left of an operator: chains group to the left.
-fn left_level(op: Op) -> u8
-    ensures { result ≡ left_level op }
-{
-    match op {
-        Op::Mul | Op::Div | Op::Mod => 5,
-        Op::Add | Op::Sub | Op::Lt | Op::Le | Op::Gt | Op::Ge | Op::Eq | Op::Ne => 4,
-    }
-}
-
-/// The level that is wanted to the right of an operator.
-fn right_level(op: Op) -> u8
-    ensures { result ≡ right_level op }
-{
-    match op {
-        Op::Add | Op::Sub => 5,
-        Op::Mul | Op::Div | Op::Mod => 6,
-        Op::Lt | Op::Le | Op::Gt | Op::Ge | Op::Eq | Op::Ne => 4,
-    }
-}
-
 /// How tightly the outermost part of an expression binds.
-fn level_of(e: &Expr) -> u8
+fn level_of(e: &Expr) -> u32
     ensures { result ≡ level_of e.now }
 {
     match &e.kind {
-        ExprKind::Or(_, _) => 0,
-        ExprKind::And(_, _) => 1,
-        ExprKind::Not(_, _) => 2,
-        ExprKind::Binary(op, _, _, _) => op_level(*op),
-        ExprKind::Neg(_, _) => 6,
-        ExprKind::Read(_, _) | ExprKind::Call(_, _, _) => 7,
+        ExprKind::Or(_, _) => 1,
+        ExprKind::And(_, _) => 2,
+        ExprKind::Not(_, _) => 3,
+        ExprKind::Binary(op, _, _, _) => op_whole(*op),
+        ExprKind::Neg(_, _) => 7,
+        ExprKind::Read(_, _) | ExprKind::Call(_, _, _) => 8,
         ExprKind::Local(_)
         | ExprKind::Int(_, _)
         | ExprKind::Text(_, _)
         | ExprKind::Bool(_, _)
         | ExprKind::Nil(_)
         | ExprKind::Cast(_, _, _)
-        | ExprKind::Join(_, _) => 8,
+        | ExprKind::Join(_, _) => 9,
     }
 }
 
@@ -82,11 +52,11 @@ pub fn put_expr(alloc: Global, page: &mut Page, e: &Expr) -> Result<(), AllocErr
         ExprKind::Nil(_) => put_what(alloc, page, What::Nil),
         ExprKind::Neg(_, a) => {
             page.put(alloc, &Printed::Minus)?;
-            put_placed(alloc, page, 6, a.get())
+            put_placed(alloc, page, 7, a.get())
         }
         ExprKind::Not(_, a) => {
             put_what(alloc, page, What::Not)?;
-            put_placed(alloc, page, 2, a.get())
+            put_placed(alloc, page, 3, a.get())
         }
         ExprKind::Binary(op, _, a, b) => put_binary(alloc, page, *op, a.get(), b.get()),
         ExprKind::And(a, b) => put_and(alloc, page, a.get(), b.get()),
@@ -101,7 +71,7 @@ pub fn put_expr(alloc: Global, page: &mut Page, e: &Expr) -> Result<(), AllocErr
 /// Adds an expression where a level is wanted: in brackets where its own is looser.
 #[cycle(exprs)]
 #[tactic(auto, using(token_lines::proofs::Sheets::writing))]
-pub fn put_placed(alloc: Global, page: &mut Page, level: u8, e: &Expr) -> Result<(), AllocError>
+pub fn put_placed(alloc: Global, page: &mut Page, level: u32, e: &Expr) -> Result<(), AllocError>
     ensures { OnOk result (page.new ≡ written page.old (placed level e.now (expr_tokens e.now))) }
 {
     if level_of(e) < level {
@@ -124,39 +94,39 @@ fn put_bracketed(alloc: Global, page: &mut Page, e: &Expr) -> Result<(), AllocEr
 #[cycle(exprs)]
 #[tactic(auto, using(token_lines::proofs::Sheets::writing))]
 fn put_binary(alloc: Global, page: &mut Page, op: Op, a: &Expr, b: &Expr) -> Result<(), AllocError>
-    ensures { OnOk result (page.new ≡ written page.old (placed (left_level op) a.now (expr_tokens a.now) ++ (Plain (what.Sign op) ∷ placed (right_level op) b.now (expr_tokens b.now)))) }
+    ensures { OnOk result (page.new ≡ written page.old (placed (op_left op) a.now (expr_tokens a.now) ++ (Plain (what.Operator op) ∷ placed (op_right op) b.now (expr_tokens b.now)))) }
 {
-    put_placed(alloc, page, left_level(op), a)?;
-    put_what(alloc, page, What::Sign(op))?;
-    put_placed(alloc, page, right_level(op), b)
+    put_placed(alloc, page, op_left(op), a)?;
+    put_what(alloc, page, What::Operator(op))?;
+    put_placed(alloc, page, op_right(op), b)
 }
 
 #[cycle(exprs)]
 #[tactic(auto, using(token_lines::proofs::Sheets::writing))]
 fn put_and(alloc: Global, page: &mut Page, a: &Expr, b: &Expr) -> Result<(), AllocError>
-    ensures { OnOk result (page.new ≡ written page.old (placed 1 a.now (expr_tokens a.now) ++ (Plain what.And ∷ placed 2 b.now (expr_tokens b.now)))) }
+    ensures { OnOk result (page.new ≡ written page.old (placed 2 a.now (expr_tokens a.now) ++ (Plain what.And ∷ placed 3 b.now (expr_tokens b.now)))) }
 {
-    put_placed(alloc, page, 1, a)?;
+    put_placed(alloc, page, 2, a)?;
     put_what(alloc, page, What::And)?;
-    put_placed(alloc, page, 2, b)
+    put_placed(alloc, page, 3, b)
 }
 
 #[cycle(exprs)]
 #[tactic(auto, using(token_lines::proofs::Sheets::writing))]
 fn put_or(alloc: Global, page: &mut Page, a: &Expr, b: &Expr) -> Result<(), AllocError>
-    ensures { OnOk result (page.new ≡ written page.old (placed 0 a.now (expr_tokens a.now) ++ (Plain what.Or ∷ placed 1 b.now (expr_tokens b.now)))) }
+    ensures { OnOk result (page.new ≡ written page.old (placed 1 a.now (expr_tokens a.now) ++ (Plain what.Or ∷ placed 2 b.now (expr_tokens b.now)))) }
 {
-    put_placed(alloc, page, 0, a)?;
+    put_placed(alloc, page, 1, a)?;
     put_what(alloc, page, What::Or)?;
-    put_placed(alloc, page, 1, b)
+    put_placed(alloc, page, 2, b)
 }
 
 #[cycle(exprs)]
 #[tactic(auto, using(token_lines::proofs::Sheets::writing))]
 fn put_read(alloc: Global, page: &mut Page, a: &Expr, word: &Word) -> Result<(), AllocError>
-    ensures { OnOk result (page.new ≡ written page.old (placed 7 a.now (expr_tokens a.now) ++ (Plain what.Dot ∷ name word.now ∷ []))) }
+    ensures { OnOk result (page.new ≡ written page.old (placed 8 a.now (expr_tokens a.now) ++ (Plain what.Dot ∷ name word.now ∷ []))) }
 {
-    put_placed(alloc, page, 7, a)?;
+    put_placed(alloc, page, 8, a)?;
     put_what(alloc, page, What::Dot)?;
     put_name(alloc, page, word)
 }
@@ -164,9 +134,9 @@ fn put_read(alloc: Global, page: &mut Page, a: &Expr, word: &Word) -> Result<(),
 #[cycle(exprs)]
 #[tactic(auto, using(token_lines::proofs::Sheets::writing))]
 fn put_call(alloc: Global, page: &mut Page, a: &Expr, list: &[Expr]) -> Result<(), AllocError>
-    ensures { OnOk result (page.new ≡ written page.old (placed 7 a.now (expr_tokens a.now) ++ (Plain what.Open ∷ (exprs_tokens (exprs list.now) ++ Plain what.Close ∷ [])))) }
+    ensures { OnOk result (page.new ≡ written page.old (placed 8 a.now (expr_tokens a.now) ++ (Plain what.Open ∷ (exprs_tokens (exprs list.now) ++ Plain what.Close ∷ [])))) }
 {
-    put_placed(alloc, page, 7, a)?;
+    put_placed(alloc, page, 8, a)?;
     put_what(alloc, page, What::Open)?;
     put_exprs(alloc, page, list)?;
     put_what(alloc, page, What::Close)

@@ -1,7 +1,7 @@
 ghost use Rattle.std.specs.Prelude.{◌≡◌, ◌++◌, IfOk, OnOk, string_bytes};
 ghost use Rattle.token_lines.specs.Lines.{lines_text};
 ghost use Rattle.tree_print.specs.ScriptLines.{item_lines, items_lines, script_lines};
-ghost use Rattle.tree_print.specs.Reading.{IsGrammatical, ReadsBack};
+ghost use Rattle.tree_print.specs.ReadsBack.{IsGrammatical, ReadsBack};
 
 use crate::definitions::{put_class, put_def};
 use crate::statements::put_stmt;

@@ -71,9 +71,9 @@ fn put_write(
     word: &Word,
     e: &Expr,
 ) -> Result<(), AllocError>
-    ensures { OnOk result (page.new ≡ written page.old (placed 7 receiver.now (expr_tokens receiver.now) ++ (Plain what.Dot ∷ name word.now ∷ sign mark.Equals ∷ expr_tokens e.now))) }
+    ensures { OnOk result (page.new ≡ written page.old (placed 8 receiver.now (expr_tokens receiver.now) ++ (Plain what.Dot ∷ name word.now ∷ sign mark.Equals ∷ expr_tokens e.now))) }
 {
-    put_placed(alloc, page, 7, receiver)?;
+    put_placed(alloc, page, 8, receiver)?;
     put_what(alloc, page, What::Dot)?;
     put_name(alloc, page, word)?;
     put_sign(alloc, page, Mark::Equals)?;

@@ -1,15 +1,15 @@
 use Rattle.std.proofs.Common.{sym, ◌∙◌}
-use Rattle.parse_expr.specs.Reading.{step, finish}
-use Rattle.parse_script.specs.Endings.{ending_of}
-use Rattle.parse_script.specs.Statements.{heaviest}
+use Rattle.parse_expr.specs.computed.Reading.{step, finish}
+use Rattle.parse_script.specs.computed.Endings.{ending_of}
+use Rattle.mono_syntax.specs.Limits.{greatest_weight}
 use Rattle.parse_script.proofs.Runs.{if_at, plain_went, plain_stopped}
 use Rattle.parse_script.proofs.expressions.plain_on.Goals as goal
 
 pub returns-in-Go : goal.returns-in-Go
-returns-in-Go c = plain_went c.args.around (ending_of c.args.token.what) (step heaviest c.args.mode c.args.token) (finish c.args.mode) c.in-Go.mode (sym c.in-Go.is ∙ c.in_ok-mode.ensures)
+returns-in-Go c = plain_went c.args.around (ending_of c.args.token.what) (step greatest_weight c.args.mode c.args.token) (finish c.args.mode) c.in-Go.mode (sym c.in-Go.is ∙ c.in_ok-mode.ensures)
 
 pub returns-in-Stop : goal.returns-in-Stop
 returns-in-Stop c =
     if_at c.plain_found.result _ _
-    (plain_stopped c.args.around (ending_of c.args.token.what) c.ending_of-ending.result (step heaviest c.args.mode c.args.token) (finish c.args.mode) c.in-Stop.found c.ending_of-ending.ensures (sym c.in-Stop.is ∙ c.in_ok-mode.ensures))
+    (plain_stopped c.args.around (ending_of c.args.token.what) c.ending_of-ending.result (step greatest_weight c.args.mode c.args.token) (finish c.args.mode) c.in-Stop.found c.ending_of-ending.ensures (sym c.in-Stop.is ∙ c.in_ok-mode.ensures))
     c.plain_found.ensures

@@ -1,16 +1,16 @@
 use Rattle.std.proofs.Common.{sym, ◌∙◌}
-use Rattle.parse_expr.specs.TypeReading.{type_step, type_finish}
-use Rattle.parse_script.specs.Endings.{ending_of}
-use Rattle.parse_script.specs.Statements.{heaviest}
+use Rattle.parse_expr.specs.computed.TypeReading.{type_step, type_finish}
+use Rattle.parse_script.specs.computed.Endings.{ending_of}
+use Rattle.mono_syntax.specs.Limits.{greatest_weight}
 use Rattle.parse_script.proofs.Runs.{typed_went, typed_stopped}
 use Rattle.parse_script.proofs.expressions.typed_step.Goals as goal
 
 pub returns-in-Go : goal.returns-in-Go
 returns-in-Go c =
-    typed_went c.args.around c.args.name (ending_of c.args.token.what) (type_step heaviest c.args.mode c.args.token) (type_finish c.args.mode) c.in-Go.mode (sym c.in-Go.is ∙ c.in_ok-mode.ensures)
+    typed_went c.args.around c.args.name (ending_of c.args.token.what) (type_step greatest_weight c.args.mode c.args.token) (type_finish c.args.mode) c.in-Go.mode (sym c.in-Go.is ∙ c.in_ok-mode.ensures)
 
 pub returns-in-Stop : goal.returns-in-Stop
 returns-in-Stop c =
     c.typed_end.ensures
-    ∙ typed_stopped c.args.around c.args.name (ending_of c.args.token.what) c.ending_of-ending.result (type_step heaviest c.args.mode c.args.token) (type_finish c.args.mode) c.in-Stop.found
+    ∙ typed_stopped c.args.around c.args.name (ending_of c.args.token.what) c.ending_of-ending.result (type_step greatest_weight c.args.mode c.args.token) (type_finish c.args.mode) c.in-Stop.found
     c.ending_of-ending.ensures (sym c.in-Stop.is ∙ c.in_ok-mode.ensures)

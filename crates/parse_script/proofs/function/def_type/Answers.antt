@@ -1,17 +1,17 @@
 use Rattle.std.proofs.Common.{sym, ◌∙◌}
-use Rattle.parse_expr.specs.TypeReading.{type_step, type_finish}
-use Rattle.parse_script.specs.Endings.{ending_of}
-use Rattle.parse_script.specs.Statements.{heaviest}
+use Rattle.parse_expr.specs.computed.TypeReading.{type_step, type_finish}
+use Rattle.parse_script.specs.computed.Endings.{ending_of}
+use Rattle.mono_syntax.specs.Limits.{greatest_weight}
 use Rattle.parse_script.proofs.Runs.{if_at, param_went, param_stopped}
 use Rattle.parse_script.proofs.function.def_type.Goals as goal
 
 pub returns-in-Go : goal.returns-in-Go
 returns-in-Go c =
-    param_went c.args.name c.args.params c.args.param (ending_of c.args.token.what) (type_step heaviest c.args.mode c.args.token) (type_finish c.args.mode) c.in-Go.mode (sym c.in-Go.is ∙ c.in_ok-mode.ensures)
+    param_went c.args.name c.args.params c.args.param (ending_of c.args.token.what) (type_step greatest_weight c.args.mode c.args.token) (type_finish c.args.mode) c.in-Go.mode (sym c.in-Go.is ∙ c.in_ok-mode.ensures)
 
 pub returns-in-Stop : goal.returns-in-Stop
 returns-in-Stop c =
     if_at c.param_end.result _ _
-    (param_stopped c.args.name c.args.params c.args.param (ending_of c.args.token.what) c.ending_of-ending.result (type_step heaviest c.args.mode c.args.token) (type_finish c.args.mode) c.in-Stop.found
+    (param_stopped c.args.name c.args.params c.args.param (ending_of c.args.token.what) c.ending_of-ending.result (type_step greatest_weight c.args.mode c.args.token) (type_finish c.args.mode) c.in-Stop.found
     c.ending_of-ending.ensures (sym c.in-Stop.is ∙ c.in_ok-mode.ensures))
     c.param_end.ensures

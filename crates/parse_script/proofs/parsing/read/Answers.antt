@@ -1,8 +1,8 @@
 use Rattle.std.proofs.Common.{sym, ◌∙◌, ap, subst}
 use Rattle.parse_script.specs.declared.stage.Around.{Around}
 use Rattle.parse_script.specs.declared.stage.Stage.TheVariants as stage
-use Rattle.parse_script.specs.Reading.{script_step, top}
-use Rattle.parse_expr.specs.Goes.{Goes}
+use Rattle.parse_script.specs.computed.Reading.{script_step, top}
+use Rattle.parse_expr.specs.computed.Goes.{Goes}
 use Rattle.parse_script.proofs.Exact.{start}
 use Rattle.parse_script.proofs.Loops.{so_far, some_token, run_light, run_start, goes_on, refuses, accepts, leaves, if_ok, if_err}
 use Rattle.parse_script.proofs.parsing.read.Goals as goal

@@ -1,6 +1,6 @@
 use Rattle.std.proofs.Common.{◌<◌, ◌-◌, length}
-use Rattle.parse_script.specs.Reading.{script_step}
-use Rattle.parse_expr.specs.Goes.{Goes}
+use Rattle.parse_script.specs.computed.Reading.{script_step}
+use Rattle.parse_expr.specs.computed.Goes.{Goes}
 use Rattle.parse_script.proofs.Exact.{start}
 use Rattle.parse_script.proofs.Loops.{so_far}
 use Rattle.parse_script.proofs.parsing.read.Given as goal

@@ -1,5 +1,5 @@
 use Rattle.std.proofs.Common.{sym, ◌∙◌}
-use Rattle.parse_script.specs.ClassReading.{class_step}
+use Rattle.parse_script.specs.computed.ClassReading.{class_step}
 use Rattle.parse_script.proofs.Runs.{if_at, class_followed}
 use Rattle.parse_script.proofs.script.in_class.Goals as goal
 

@@ -1,7 +1,7 @@
 use Rattle.std.proofs.Common.{sym, ◌∙◌, ap}
 use Rattle.parse_script.specs.declared.stage.Stage.{Stage}
 use Rattle.parse_script.specs.declared.stage.Turn.TheVariants as turn
-use Rattle.parse_script.specs.DefReading.{def_step}
+use Rattle.parse_script.specs.computed.DefReading.{def_step}
 use Rattle.parse_script.proofs.Runs.{def_followed}
 use Rattle.parse_script.proofs.script.in_def.Goals as goal
 

@@ -2,8 +2,8 @@ use Rattle.std.proofs.Common.{◌*◌, ◌+◌, ◌-◌, chars, ap, sym, ◌∙�
 use Rattle.py_chars.proofs.Numbers.{number_some, number_none, with_read, read_on, all_read, too_great}
 use Rattle.py_chars.proofs.number.number_value.Goals as goal
 
-pub returns-then-value-gt-GREATEST : goal.returns-then-value-gt-GREATEST
-returns-then-value-gt-GREATEST c =
+pub returns-then-value-gt-GREATEST_INTEGER : goal.returns-then-value-gt-GREATEST_INTEGER
+returns-then-value-gt-GREATEST_INTEGER c =
     let v = c.loop-c.value in
     let read = read_on v c.in-Some.c (chars c.in-Some.behind.now) ∙ ap (with_read v) (sym c.in-Some.ensures.parts) ∙ c.loop-c.invariant.read in
     let above = too_great (v * 10 + (c.in-Some.c - 48)) (chars c.in-Some.behind.now) in

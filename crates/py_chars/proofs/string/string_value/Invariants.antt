@@ -10,7 +10,7 @@ invariant-loop-c l = record {
   text : shadow (Utf8 l.rest);
   value : string_bytes l.value ++ encode_utf8_all (map item_value (items_of (chars l.rest))) ≡ encode_utf8_all (string_of (chars l.fn.text));
   bad : first_bad l.at (items_of (chars l.rest)) ≡ bad_escape (chars l.fn.text);
-  short : l.at + length l.rest ≤ 1048576;
+  short : l.at + length l.rest ≤ length l.fn.text;
 }
 
 abbrev pub decreases-loop-c : goal.decreases-loop-c

@@ -1,7 +1,7 @@
 use Rattle.std.proofs.Common.{◌≡◌, length, chars}
 use denote.Text.{Utf8}
 use denote.Shadow.{shadow}
-use Rattle.py_lexer.specs.Scanning.{first_control}
+use Rattle.py_lexer.specs.computed.Scanning.{first_control}
 use Rattle.py_lexer.specs.Bounds.{Fits}
 use Rattle.py_lexer.proofs.fault.first_control.Given as goal
 

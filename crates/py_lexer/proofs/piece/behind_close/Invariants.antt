@@ -1,7 +1,7 @@
 use Rattle.std.proofs.Common.{◌≡◌, length, chars, false}
 use denote.Text.{Utf8}
 use denote.Shadow.{shadow}
-use Rattle.py_lexer.specs.Reading.{at_close}
+use Rattle.py_lexer.specs.computed.Reading.{at_close}
 use Rattle.py_lexer.proofs.piece.behind_close.Given as goal
 
 abbrev pub invariant-loop-c : goal.invariant-loop-c

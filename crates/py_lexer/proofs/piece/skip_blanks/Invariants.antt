@@ -2,7 +2,7 @@ use Rattle.std.proofs.Common.{◌≡◌, length, chars}
 use denote.Text.{Utf8}
 use denote.Shadow.{shadow}
 use Rattle.py_lexer.specs.Characters.{is_blank}
-use Rattle.py_lexer.specs.Reading.{skip}
+use Rattle.py_lexer.specs.computed.Reading.{skip}
 use Rattle.py_lexer.proofs.piece.skip_blanks.Given as goal
 
 abbrev pub invariant-loop-c : goal.invariant-loop-c

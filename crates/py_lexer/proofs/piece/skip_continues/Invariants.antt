@@ -2,7 +2,7 @@ use Rattle.std.proofs.Common.{◌≡◌, length, chars}
 use denote.Text.{Utf8}
 use denote.Shadow.{shadow}
 use Rattle.unicode_ident.specs.Ident.{is_xid_continue}
-use Rattle.py_lexer.specs.Reading.{skip}
+use Rattle.py_lexer.specs.computed.Reading.{skip}
 use Rattle.py_lexer.proofs.piece.skip_continues.Given as goal
 
 abbrev pub invariant-loop-c : goal.invariant-loop-c

@@ -1,7 +1,7 @@
 use Rattle.std.proofs.Common.{◌≡◌, length, chars}
 use denote.Text.{Utf8}
 use denote.Shadow.{shadow}
-use Rattle.py_lexer.specs.Reading.{skip_line}
+use Rattle.py_lexer.specs.computed.Reading.{skip_line}
 use Rattle.py_lexer.proofs.piece.skip_line.Given as goal
 
 abbrev pub invariant-loop-behind : goal.invariant-loop-behind

@@ -1,7 +1,7 @@
 use Rattle.std.proofs.Common.{◌≡◌, ℕ, List, rules, sym, subst}
 use Rattle.std.specs.Prelude.{IsUtf8, string_bytes}
 use Rattle.token_lines.specs.Lines.{lines_text}
-use Rattle.tree_print.specs.Reading.{ReadsBack}
+use Rattle.tree_print.specs.ReadsBack.{ReadsBack}
 use Rattle.tree_print.specs.ScriptLines.{script_lines}
 use Rattle.tree_print.proofs.PrintedReads.{printed_utf8, reads_back}
 use Rattle.tree_print.proofs.printing.print_script.Goals as goal

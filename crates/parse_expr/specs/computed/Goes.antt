@@ -1,4 +1,4 @@
--- Runs of a machine whose step is a function.
+-- computed: the runs of a machine whose step is a function.
 use Rattle.std.specs.Prelude.{◌≡◌, List, [], ◌∷◌, Option, Some}
 
 -- the machine goes from a state to another over these tokens

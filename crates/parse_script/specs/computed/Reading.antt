@@ -1,4 +1,5 @@
--- Reading a script one token at a time: what the code computes. The grammar is in Statements, Definitions and Script.
+-- computed: what the code of `script_step` computes, which reads a script one token at a time. The grammar is in Statements,
+-- Definitions and Script.
 use Rattle.std.specs.Prelude.{ℕ, suc, ◌+◌, Bool, true, false, List, [], ◌∷◌, ◌++◌, length, Option, Some, None, nat_lt}
 use Rattle.mono_syntax.specs.declared.leaf.Place.{Place}
 use Rattle.mono_syntax.specs.declared.leaf.Word.{Word}
@@ -23,8 +24,8 @@ use Rattle.parse_expr.specs.declared.machine.Mode.TheVariants as mode
 use Rattle.parse_expr.specs.declared.machine.TypeMode.{TypeMode}
 use Rattle.parse_expr.specs.declared.machine.TypeMode.TheVariants as type_mode
 use Rattle.parse_expr.specs.declared.machine.Weighed.{Weighed}
-use Rattle.parse_expr.specs.Reading.{step, finish, held, IsLightMode}
-use Rattle.parse_expr.specs.TypeReading.{type_step, type_finish, IsLightType}
+use Rattle.parse_expr.specs.computed.Reading.{step, finish, held, IsLightMode}
+use Rattle.parse_expr.specs.computed.TypeReading.{type_step, type_finish, IsLightType}
 use Rattle.parse_expr.specs.Types.{word}
 use Rattle.parse_script.specs.declared.stage.Around.{Around}
 use Rattle.parse_script.specs.declared.stage.ClassStage.{ClassStage}
@@ -48,10 +49,11 @@ use Rattle.parse_script.specs.declared.stage.Turn.{Turn}
 use Rattle.parse_script.specs.declared.stage.Turn.TheVariants as turn
 use Rattle.parse_script.specs.declared.stage.Use.{Use}
 use Rattle.parse_script.specs.declared.stage.Use.TheVariants as for_
-use Rattle.parse_script.specs.ClassReading.{class_step, IsLightClass}
-use Rattle.parse_script.specs.DefReading.{def_step, IsLightDef}
-use Rattle.parse_script.specs.Endings.{ending_of}
-use Rattle.parse_script.specs.Statements.{heaviest, deepest, branch}
+use Rattle.parse_script.specs.computed.ClassReading.{class_step, IsLightClass}
+use Rattle.parse_script.specs.computed.DefReading.{def_step, IsLightDef}
+use Rattle.parse_script.specs.computed.Endings.{ending_of}
+use Rattle.mono_syntax.specs.Limits.{greatest_weight, most_blocks}
+use Rattle.parse_script.specs.Statements.{branch}
 
 -- ---- where statements stand
 
@@ -171,7 +173,7 @@ inside_next a u o n (Some m) = Some (stage.Inside a u m)
 inside_next a u o n None = behind_found a u o n
 
 abbrev pub inside_step : Around → Use → Mode → Spelled → Option Stage
-inside_step a u m t = inside_next a u (finish m) (ending_of t.what) (step heaviest m t)
+inside_step a u m t = inside_next a u (finish m) (ending_of t.what) (step greatest_weight m t)
 
 -- an expression for this begins
 abbrev pub inside : Around → Use → Stage
@@ -199,7 +201,7 @@ argument_next a l es o n (Some m) = Some (stage.Argument a l es m)
 argument_next a l es o n None = found_argument a l es o n
 
 abbrev pub argument_step : Around → Listed → List Expr → Mode → Spelled → Option Stage
-argument_step a l es m t = argument_next a l es (finish m) (ending_of t.what) (step heaviest m t)
+argument_step a l es m t = argument_next a l es (finish m) (ending_of t.what) (step greatest_weight m t)
 
 abbrev pub listing_at : Around → Listed → List Expr → Ending → Option Stage → Option Stage
 listing_at a l es ending.Close o = listed_stage a l es
@@ -227,7 +229,7 @@ plain_next a o n (Some m) = Some (stage.Plain a m)
 plain_next a o n None = plain_found a o n
 
 abbrev pub plain_on : Around → Mode → Spelled → Option Stage
-plain_on a m t = plain_next a (finish m) (ending_of t.what) (step heaviest m t)
+plain_on a m t = plain_next a (finish m) (ending_of t.what) (step greatest_weight m t)
 
 -- behind a `.` where no bracket or operator is open, what was read may be the receiver of a target
 abbrev pub plain_held : Around → List Frame → Expr → ℕ → Ending → Option Stage → Option Stage
@@ -255,7 +257,7 @@ target_at a o x ending.Equals s = Some (inside a (for_.Write o x))
 target_at a o x _ s = s
 
 abbrev pub target_step : Around → Expr → ℕ → Word → Spelled → Option Stage
-target_step a o w x t = target_at a o x (ending_of t.what) (attribute_step (nat_lt w heaviest) a o w x t)
+target_step a o w x t = target_at a o x (ending_of t.what) (attribute_step (nat_lt w greatest_weight) a o w x t)
 
 abbrev pub named_at : Around → Word → Ending → Option Stage → Option Stage
 named_at a x ending.Equals s = Some (stage.Assigning a x)
@@ -281,7 +283,7 @@ typed_next a x o w (Some m) = Some (stage.Typed a x m)
 typed_next a x o w None = typed_end a x o w
 
 abbrev pub typed_step : Around → Word → TypeMode → Spelled → Option Stage
-typed_step a x m t = typed_next a x (type_finish m) (ending_of t.what) (type_step heaviest m t)
+typed_step a x m t = typed_next a x (type_finish m) (ending_of t.what) (type_step greatest_weight m t)
 
 abbrev pub returning_at : Around → Place → Ending → Option Stage → Option Stage
 returning_at a p ending.Newline o = Some (added_stage a (stmt.give p None))
@@ -296,8 +298,8 @@ abbrev pub start_mark : Around → Place → Mark → Option Stage
 start_mark a p mark.Pass = Some (stage.Line (added a stmt.pass))
 start_mark a p mark.Return = stage_if (is_def a.floor) (stage.Returning a p)
 start_mark a p mark.Print = Some (stage.PrintWord a)
-start_mark a p mark.If = stage_if (nat_lt (depth a) deepest) (inside a (for_.Branch []))
-start_mark a p mark.While = stage_if (nat_lt (depth a) deepest) (inside a for_.While)
+start_mark a p mark.If = stage_if (nat_lt (depth a) most_blocks) (inside a (for_.Branch []))
+start_mark a p mark.While = stage_if (nat_lt (depth a) most_blocks) (inside a for_.While)
 start_mark a p mark.Class = class_at a.floor a.opened
 start_mark a p mark.Def = def_at a.floor a.opened
 start_mark a p mark.Dedent = left a.floor a.opened a.done

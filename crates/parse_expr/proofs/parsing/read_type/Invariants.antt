@@ -1,9 +1,9 @@
 use Rattle.std.proofs.Common.{◌≤◌, ◌<◌, ◌-◌, length, []}
 use Rattle.parse_expr.specs.declared.machine.TypeMode.TheVariants as mode
-use Rattle.parse_expr.specs.TypeReading.{type_step}
-use Rattle.parse_expr.specs.Goes.{Goes}
+use Rattle.parse_expr.specs.computed.TypeReading.{type_step}
+use Rattle.parse_expr.specs.computed.Goes.{Goes}
 use Rattle.parse_expr.proofs.Loops.{so_far}
-use Rattle.parse_expr.proofs.parsing.parse_type.Given as goal
+use Rattle.parse_expr.proofs.parsing.read_type.Given as goal
 
 abbrev pub invariant-loop-mode : goal.invariant-loop-mode
 invariant-loop-mode l = record {

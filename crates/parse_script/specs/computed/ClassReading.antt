@@ -1,4 +1,4 @@
--- Reading a class one token at a time: what the code computes. The grammar is in Definitions.
+-- computed: what the code of `class_step` computes, which reads a class one token at a time. The grammar is in Definitions.
 use Rattle.std.specs.Prelude.{List, [], ◌∷◌, ◌++◌, Option, Some, None}
 use Rattle.mono_syntax.specs.declared.leaf.Place.{Place}
 use Rattle.mono_syntax.specs.declared.leaf.Word.{Word}
@@ -12,7 +12,7 @@ use Rattle.spelled_tokens.specs.declared.token.What.TheVariants as what
 use Rattle.parse_expr.specs.declared.machine.TypeMode.{TypeMode}
 use Rattle.parse_expr.specs.declared.machine.TypeMode.TheVariants as type_mode
 use Rattle.parse_expr.specs.declared.machine.Weighed.{Weighed}
-use Rattle.parse_expr.specs.TypeReading.{type_step, type_finish, IsLightType}
+use Rattle.parse_expr.specs.computed.TypeReading.{type_step, type_finish, IsLightType}
 use Rattle.parse_expr.specs.Types.{word}
 use Rattle.parse_script.specs.declared.stage.ClassStage.{ClassStage}
 use Rattle.parse_script.specs.declared.stage.ClassStage.TheVariants as stage
@@ -20,8 +20,8 @@ use Rattle.parse_script.specs.declared.stage.ClassTurn.{ClassTurn}
 use Rattle.parse_script.specs.declared.stage.ClassTurn.TheVariants as turn
 use Rattle.parse_script.specs.declared.stage.Ending.{Ending}
 use Rattle.parse_script.specs.declared.stage.Ending.TheVariants as ending
-use Rattle.parse_script.specs.Endings.{ending_of}
-use Rattle.parse_script.specs.Statements.{heaviest}
+use Rattle.parse_script.specs.computed.Endings.{ending_of}
+use Rattle.mono_syntax.specs.Limits.{greatest_weight}
 
 abbrev pub class_def : Word → List FieldDef → ClassDef
 class_def w fs = record { name = w; fields = fs }
@@ -87,7 +87,7 @@ class_step (stage.Body w) t = class_body w t.place t.what
 class_step (stage.Pass w) t = class_pass w t.what
 class_step (stage.PassLine w) t = class_pass_line w t.what
 class_step (stage.Field w fs x) t = class_field w fs x t.what
-class_step (stage.Type w fs x m) t = class_type w fs x (type_finish m) (ending_of t.what) (type_step heaviest m t)
+class_step (stage.Type w fs x m) t = class_type w fs x (type_finish m) (ending_of t.what) (type_step greatest_weight m t)
 class_step (stage.Fields w fs) t = class_fields w fs t.place t.what
 class_step (stage.Done c) t = None
 

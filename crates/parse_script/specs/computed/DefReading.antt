@@ -1,4 +1,4 @@
--- Reading the head of a function one token at a time: what the code computes. The grammar is in Definitions.
+-- computed: what the code of `def_step` computes, which reads the head of a function one token at a time. The grammar is in Definitions.
 use Rattle.std.specs.Prelude.{List, [], ◌∷◌, ◌++◌, Option, Some, None}
 use Rattle.mono_syntax.specs.declared.leaf.Place.{Place}
 use Rattle.mono_syntax.specs.declared.leaf.Word.{Word}
@@ -11,7 +11,7 @@ use Rattle.spelled_tokens.specs.declared.token.What.TheVariants as what
 use Rattle.parse_expr.specs.declared.machine.TypeMode.{TypeMode}
 use Rattle.parse_expr.specs.declared.machine.TypeMode.TheVariants as type_mode
 use Rattle.parse_expr.specs.declared.machine.Weighed.{Weighed}
-use Rattle.parse_expr.specs.TypeReading.{type_step, type_finish, IsLightType}
+use Rattle.parse_expr.specs.computed.TypeReading.{type_step, type_finish, IsLightType}
 use Rattle.parse_expr.specs.Types.{word}
 use Rattle.parse_script.specs.declared.stage.DefHead.{DefHead}
 use Rattle.parse_script.specs.declared.stage.DefStage.{DefStage}
@@ -20,8 +20,8 @@ use Rattle.parse_script.specs.declared.stage.DefTurn.{DefTurn}
 use Rattle.parse_script.specs.declared.stage.DefTurn.TheVariants as turn
 use Rattle.parse_script.specs.declared.stage.Ending.{Ending}
 use Rattle.parse_script.specs.declared.stage.Ending.TheVariants as ending
-use Rattle.parse_script.specs.Endings.{ending_of}
-use Rattle.parse_script.specs.Statements.{heaviest}
+use Rattle.parse_script.specs.computed.Endings.{ending_of}
+use Rattle.mono_syntax.specs.Limits.{greatest_weight}
 
 abbrev pub def_head : Word → List Param → Option Ann → DefHead
 def_head w xs a = record { name = w; params = xs; result = a }
@@ -92,9 +92,9 @@ def_step stage.Word t = def_word t.place t.what
 def_step (stage.Name w) t = def_name w t.what
 def_step (stage.Params w xs) t = def_params w xs t.place t.what
 def_step (stage.Param w xs x) t = def_param w xs x (ending_of t.what)
-def_step (stage.Type w xs x m) t = def_type w xs x (type_finish m) (ending_of t.what) (type_step heaviest m t)
+def_step (stage.Type w xs x m) t = def_type w xs x (type_finish m) (ending_of t.what) (type_step greatest_weight m t)
 def_step (stage.Closed w xs) t = def_closed w xs t.what
-def_step (stage.Result w xs m) t = def_result w xs (type_finish m) (ending_of t.what) (type_step heaviest m t)
+def_step (stage.Result w xs m) t = def_result w xs (type_finish m) (ending_of t.what) (type_step greatest_weight m t)
 def_step (stage.Colon h) t = def_colon h t.what
 def_step (stage.Line h) t = def_line h t.what
 def_step (stage.Done h) t = None

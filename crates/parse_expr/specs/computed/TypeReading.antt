@@ -1,5 +1,6 @@
--- Reading a type one token at a time: what the code computes. The grammar is in Types.
+-- computed: what the code of `type_step` and `type_finish` computes, which reads a type one token at a time. The grammar is in Types.
 use Rattle.std.specs.Prelude.{ℕ, suc, ◌+◌, ◌<◌, ◌≤◌, max, Bool, true, false, List, [], ◌∷◌, ◌++◌, length, Option, Some, None, nat_lt}
+use Rattle.mono_syntax.specs.Limits.{greatest_weight}
 use Rattle.mono_syntax.specs.declared.leaf.Place.{Place}
 use Rattle.mono_syntax.specs.Ann.{Ann, Form, ann, dyn, int, bool, str, nil, class, fun}
 use Rattle.mono_syntax.specs.AnnView.{anns}
@@ -107,13 +108,13 @@ type_next (Some m) o = next.Go m
 -- weights that fit
 abbrev pub AreLightTypes : List TypeFrame → Type 0
 AreLightTypes [] = Unit {0}
-AreLightTypes (frame.Params p xs v ∷ k) = (suc v + length k ≤ 100) × AreLightTypes k
-AreLightTypes (frame.Result p xs v ∷ k) = (suc v + length k ≤ 100) × AreLightTypes k
+AreLightTypes (frame.Params p xs v ∷ k) = (suc v + length k ≤ greatest_weight) × AreLightTypes k
+AreLightTypes (frame.Result p xs v ∷ k) = (suc v + length k ≤ greatest_weight) × AreLightTypes k
 
 abbrev pub IsLightType : TypeMode → Type 0
 IsLightType (mode.Want k) = AreLightTypes k
-IsLightType (mode.Outer p k) = AreLightTypes k × (suc (length k) < 100)
-IsLightType (mode.Inner p k) = AreLightTypes k × (suc (length k) < 100)
-IsLightType (mode.First p k) = AreLightTypes k × (suc (length k) < 100)
-IsLightType (mode.Between p xs v k) = AreLightTypes k × (suc v + length k ≤ 100)
-IsLightType (mode.Have k a w) = AreLightTypes k × (w + length k ≤ 100)
+IsLightType (mode.Outer p k) = AreLightTypes k × (suc (length k) < greatest_weight)
+IsLightType (mode.Inner p k) = AreLightTypes k × (suc (length k) < greatest_weight)
+IsLightType (mode.First p k) = AreLightTypes k × (suc (length k) < greatest_weight)
+IsLightType (mode.Between p xs v k) = AreLightTypes k × (suc v + length k ≤ greatest_weight)
+IsLightType (mode.Have k a w) = AreLightTypes k × (w + length k ≤ greatest_weight)

@@ -1,4 +1,4 @@
--- What a token is to what stands before it, as the reading tells it apart.
+-- computed: what the code of `ending_of` computes, which tells what a token is to what stands before it.
 use Rattle.spelled_tokens.specs.declared.token.Mark.{Mark}
 use Rattle.spelled_tokens.specs.declared.token.Mark.TheVariants as mark
 use Rattle.spelled_tokens.specs.declared.token.What.{What}

@@ -1,5 +1,6 @@
--- Reading an expression one token at a time: what the code computes. The grammar is in Grammar.
+-- computed: what the code of `step` and `finish` computes, which reads an expression one token at a time. The grammar is in Grammar.
 use Rattle.std.specs.Prelude.{◌≡◌, ℕ, suc, ◌+◌, ◌-◌, ◌<◌, ◌≤◌, max, Bool, true, false, ◌&&◌, List, [], ◌∷◌, ◌++◌, length, Option, Some, None, nat_lt, nat_le, if◌then◌else◌}
+use Rattle.mono_syntax.specs.Limits.{greatest_weight}
 use Rattle.mono_syntax.specs.declared.leaf.Op.{Op}
 use Rattle.mono_syntax.specs.declared.leaf.Op.TheVariants as op
 use Rattle.mono_syntax.specs.declared.leaf.Place.{Place}
@@ -25,46 +26,29 @@ use Rattle.parse_expr.specs.declared.machine.TypeNext.{TypeNext}
 use Rattle.parse_expr.specs.declared.machine.TypeNext.TheVariants as type_next
 use Rattle.parse_expr.specs.declared.machine.Weighed.{Weighed}
 use Rattle.parse_expr.specs.Types.{word}
-use Rattle.parse_expr.specs.Grammar.{Group, comparing, adding, multiplying, group}
-use Rattle.parse_expr.specs.TypeReading.{type_step, type_finish, IsLightType}
-
--- The forms by number, which the machine compares: 1 whole, 2 and, 3 not, 4 comparison, 5 sum, 6 term, 7 factor, 8 postfix.
+use Rattle.parse_expr.specs.Precedence.{op_left, op_whole, op_right}
+use Rattle.parse_expr.specs.computed.TypeReading.{type_step, type_finish, IsLightType}
 
 -- the level of an operator's left part, of the whole, of its right part
-abbrev pub group_left : Group → ℕ
-group_left comparing = 5
-group_left adding = 5
-group_left multiplying = 6
-
-abbrev pub group_whole : Group → ℕ
-group_whole comparing = 4
-group_whole adding = 5
-group_whole multiplying = 6
-
-abbrev pub group_right : Group → ℕ
-group_right comparing = 5
-group_right adding = 6
-group_right multiplying = 7
-
 abbrev pub link_left : Link → ℕ
 link_left link.Or = 1
 link_left link.And = 2
-link_left (link.Sign o) = group_left (group o)
+link_left (link.Operator o) = op_left o
 
 abbrev pub link_whole : Link → ℕ
 link_whole link.Or = 1
 link_whole link.And = 2
-link_whole (link.Sign o) = group_whole (group o)
+link_whole (link.Operator o) = op_whole o
 
 abbrev pub link_right : Link → ℕ
 link_right link.Or = 2
 link_right link.And = 3
-link_right (link.Sign o) = group_right (group o)
+link_right (link.Operator o) = op_right o
 
 abbrev pub link_tree : Link → Place → Expr → Expr → Expr
 link_tree link.Or p a b = expr.either a b
 link_tree link.And p a b = expr.both a b
-link_tree (link.Sign o) p a b = expr.binary o p a b
+link_tree (link.Operator o) p a b = expr.binary o p a b
 
 -- the level of the whole that a frame makes; 0 where a bracket has to close it
 abbrev pub level : Frame → ℕ
@@ -133,7 +117,7 @@ begin r k p (what.Text t) = if_some (nat_lt (length k) r) (mode.Have (held k (ex
 begin r k p (what.Bool b) = if_some (nat_lt (length k) r) (mode.Have (held k (expr.truth p b) 1))
 begin r k p what.Nil = if_some (nat_lt (length k) r) (mode.Have (held k (expr.nil p) 1))
 begin r k p what.Not = if_some (nat_lt (suc (length k)) r && nat_le (hole k) 3) (mode.Want (frame.Not p ∷ k))
-begin r k p (what.Sign o) = if_some (nat_lt (suc (length k)) r && is_minus o) (mode.Want (frame.Neg p ∷ k))
+begin r k p (what.Operator o) = if_some (nat_lt (suc (length k)) r && is_minus o) (mode.Want (frame.Neg p ∷ k))
 begin r k p what.Open = if_some (nat_lt (suc (length k)) r) (mode.Want (frame.Bracket ∷ k))
 begin r k p what.Close = close_empty k
 begin r k p what.Cast = if_some (nat_lt (suc (length k)) r) (mode.CastWord p k)
@@ -166,7 +150,7 @@ go_on r k e w p what.Dot = if_some (nat_lt (w + length k) r) (mode.Dotted (held 
 go_on r k e w p what.Open = if_some (nat_lt (w + length k) r) (mode.Want (frame.Call p e w [] ∷ k))
 go_on r k e w p what.Or = join_link r link.Or p (settle 1 k e w)
 go_on r k e w p what.And = join_link r link.And p (settle 2 k e w)
-go_on r k e w p (what.Sign o) = join_link r (link.Sign o) p (settle (group_left (group o)) k e w)
+go_on r k e w p (what.Operator o) = join_link r (link.Operator o) p (settle (op_left o) k e w)
 go_on r k e w p what.Close = close (settle 1 k e w)
 go_on r k e w p what.Comma = comma (settle 1 k e w)
 go_on r k e w p _ = None
@@ -233,25 +217,25 @@ finish _ = None
 -- weights that fit
 abbrev pub IsLight : List Frame → Type 0
 IsLight [] = Unit {0}
-IsLight (frame.Binary l p a v ∷ k) = (suc v + length k ≤ 100) × IsLight k
+IsLight (frame.Binary l p a v ∷ k) = (suc v + length k ≤ greatest_weight) × IsLight k
 IsLight (frame.Not p ∷ k) = IsLight k
 IsLight (frame.Neg p ∷ k) = IsLight k
 IsLight (frame.Bracket ∷ k) = IsLight k
-IsLight (frame.Call p c v es ∷ k) = (suc v + length k ≤ 100) × IsLight k
-IsLight (frame.Cast p a v ∷ k) = (suc v + length k ≤ 100) × IsLight k
+IsLight (frame.Call p c v es ∷ k) = (suc v + length k ≤ greatest_weight) × IsLight k
+IsLight (frame.Cast p a v ∷ k) = (suc v + length k ≤ greatest_weight) × IsLight k
 
 abbrev pub IsLightHeld : Held → Type 0
-IsLightHeld h = IsLight h.stack × (h.weight + length h.stack ≤ 100)
+IsLightHeld h = IsLight h.stack × (h.weight + length h.stack ≤ greatest_weight)
 
 abbrev pub IsLightMode : Mode → Type 0
-IsLightMode (mode.Want k) = IsLight k × (length k ≤ 100)
+IsLightMode (mode.Want k) = IsLight k × (length k ≤ greatest_weight)
 IsLightMode (mode.Have h) = IsLightHeld h
-IsLightMode (mode.Dotted h) = IsLight h.stack × (suc h.weight + length h.stack ≤ 100)
-IsLightMode (mode.CastWord p k) = IsLight k × (suc (length k) < 100)
-IsLightMode (mode.CastType p k m) = IsLight k × IsLightType m × ((a : Weighed) → type_finish m ≡ Some a → suc a.weight + length k ≤ 100)
-IsLightMode (mode.JoinWord p k) = IsLight k × (length k < 100)
-IsLightMode (mode.JoinOpen p k) = IsLight k × (length k < 100)
-IsLightMode (mode.JoinName p x k) = IsLight k × (length k < 100)
+IsLightMode (mode.Dotted h) = IsLight h.stack × (suc h.weight + length h.stack ≤ greatest_weight)
+IsLightMode (mode.CastWord p k) = IsLight k × (suc (length k) < greatest_weight)
+IsLightMode (mode.CastType p k m) = IsLight k × IsLightType m × ((a : Weighed) → type_finish m ≡ Some a → suc a.weight + length k ≤ greatest_weight)
+IsLightMode (mode.JoinWord p k) = IsLight k × (length k < greatest_weight)
+IsLightMode (mode.JoinOpen p k) = IsLight k × (length k < greatest_weight)
+IsLightMode (mode.JoinName p x k) = IsLight k × (length k < greatest_weight)
 
 abbrev pub next_of : Option Mode → Option Expr → Next
 next_of None o = next.Stop o

@@ -1,4 +1,4 @@
--- Reading a text piece by piece, as functions that the code computes.
+-- computed: what the code of `front` computes, which reads the piece at the front of a text.
 use Rattle.std.specs.Prelude.{ℕ, Bool, false, ◌&&◌, ◌==◌, not, List, [], ◌∷◌, Option, Some, None, if◌then◌else◌}
 use Rattle.std.specs.Char.{is_ascii_digit}
 use Rattle.unicode_ident.specs.Ident.{is_xid_continue}

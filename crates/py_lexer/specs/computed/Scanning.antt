@@ -1,4 +1,4 @@
--- Reading pieces one by one, as functions that the code computes.
+-- computed: what the code of `step` and `finish` computes, which reads pieces one by one.
 use Rattle.std.specs.Prelude.{◌≡◌, ℕ, ◌+◌, Bool, true, false, ◌&&◌, ◌||◌, not, is_some, List, [], ◌∷◌, ◌++◌, take, drop, replicate, Option, Some, None, Result, Ok, Err, if◌then◌else◌}
 use Rattle.mono_syntax.specs.declared.Refusal.{Refusal}
 use Rattle.mono_syntax.specs.declared.Reason.{Reason}
