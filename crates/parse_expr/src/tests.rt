@@ -80,7 +80,7 @@ fn is_call(e: &Expr) -> bool {
         && is_number(one.get(), 1, 5)
         && is_number(two.get(), 2, 9)
         && *quote == at(12)
-        && value.as_slice() == b"x"
+        && value.as_slice() == b"x".as_slice()
 }
 
 /// Whether this is `-cast(Callable[[int], Dyn], join(t))` at column 20.

@@ -9,4 +9,4 @@ pub returns : goal.returns
 returns c =
     line_put c.args.page.now c.begin.new.self c.put_field.new.page c.end.new.self 1
     (name c.args.field.now.name ∷ sign mark.Colon ∷ ann_tokens c.args.field.now.ann)
-    (c.in_ok-begin.ensures ∙ ap (λ d. begun c.args.page.now d) c.requires) c.in_ok-put_field.ensures c.in_ok-end.ensures
+    (c.in_ok-begin.ensures.line ∙ ap (λ d. begun c.args.page.now d) c.requires) c.in_ok-put_field.ensures c.in_ok-end.ensures.line
