@@ -2,6 +2,7 @@
 use Rattle.std.proofs.Common.{◌≡◌, ◌∙◌, sym, ap, refl, ℕ, suc, ◌+◌, ◌-◌, ◌<◌, ◌≤◌, Bool, true, false, List, [], ◌∷◌, ◌++◌, length, map, drop, get_or, arith, Bor}
 use Rattle.std.specs.Prelude.{◌||◌, not, filter, bytes_eq, if◌then◌else◌, Option, slice_get}
 use Rattle.std.proofs.lemmas.Slice.Eq.{bytes_eq-Decides}
+use Rattle.mono_syntax.specs.Limits.{most_names}
 use Rattle.mono_syntax.specs.declared.leaf.Word.{Word}
 use Rattle.class_types.specs.NewNames.{known, new_words}
 use Rattle.script_rules.specs.SourceParts.{first_words}
@@ -88,21 +89,21 @@ new-first ws = new-fresh [] ws ∙ filter-all (fresh []) (λ x. refl) (first_wor
 
 -- one more new name, where more may come
 pub crowded-next : (xs : List (Bor Word)) (i : ℕ) (x : Bor Word) (seen more : List (Bor Word)) (n m : ℕ) (target : Option Word) → i < length xs → x ≡ get_or xs i x
-    → known (map (λ w. w.now) seen) x.now.text ≡ false → more ≡ seen ++ x ∷ [] → n ≤ 4096 → (n ≡ 4096 → ⊥) → m ≡ n + 1
-    → slice_get (new_words (map (λ w. w.now) seen) (map (λ w. w.now) (drop i xs))) (4096 - n) ≡ target
-    → slice_get (new_words (map (λ w. w.now) more) (map (λ w. w.now) (drop (i + 1) xs))) (4096 - m) ≡ target
+    → known (map (λ w. w.now) seen) x.now.text ≡ false → more ≡ seen ++ x ∷ [] → n ≤ most_names → (n ≡ most_names → ⊥) → m ≡ n + 1
+    → slice_get (new_words (map (λ w. w.now) seen) (map (λ w. w.now) (drop i xs))) (most_names - n) ≡ target
+    → slice_get (new_words (map (λ w. w.now) more) (map (λ w. w.now) (drop (i + 1) xs))) (most_names - m) ≡ target
 crowded-next xs i x seen more n m target h is fresh push within room count inv =
     let step : map (λ w. w.now) (drop i xs) ≡ x.now ∷ map (λ w. w.now) (drop (i + 1) xs) = ap (map (λ w. w.now)) (next xs i x h is) in
-    let less : 4096 - n ≡ suc (4096 - m) = omega arith in
+    let less : most_names - n ≡ suc (most_names - m) = omega arith in
     let grown : map (λ w. w.now) more ≡ map (λ w. w.now) seen ++ x.now ∷ [] = ap (map (λ w. w.now)) push ∙ map-push seen x in
-    let now = ap (λ l. slice_get (new_words (map (λ w. w.now) seen) l) (4096 - n)) (sym step) ∙ inv in
-    ap (λ l. slice_get (new_words l (map (λ w. w.now) (drop (i + 1) xs))) (4096 - m)) grown ∙ (go fresh less ∙ now)
+    let now = ap (λ l. slice_get (new_words (map (λ w. w.now) seen) l) (most_names - n)) (sym step) ∙ inv in
+    ap (λ l. slice_get (new_words l (map (λ w. w.now) (drop (i + 1) xs))) (most_names - m)) grown ∙ (go fresh less ∙ now)
   where
     map-push : (l : List (Bor Word)) (y : Bor Word) → map (λ w. w.now) (l ++ y ∷ []) ≡ map (λ w. w.now) l ++ y.now ∷ []
     map-push [] y = refl
     map-push (z ∷ l) y = ap (λ r. z.now ∷ r) (map-push l y)
 
-    go : known (map (λ w. w.now) seen) x.now.text ≡ false → 4096 - n ≡ suc (4096 - m)
-        → slice_get (new_words (map (λ w. w.now) seen ++ x.now ∷ []) (map (λ w. w.now) (drop (i + 1) xs))) (4096 - m)
-        ≡ slice_get (new_words (map (λ w. w.now) seen) (x.now ∷ map (λ w. w.now) (drop (i + 1) xs))) (4096 - n)
+    go : known (map (λ w. w.now) seen) x.now.text ≡ false → most_names - n ≡ suc (most_names - m)
+        → slice_get (new_words (map (λ w. w.now) seen ++ x.now ∷ []) (map (λ w. w.now) (drop (i + 1) xs))) (most_names - m)
+        ≡ slice_get (new_words (map (λ w. w.now) seen) (x.now ∷ map (λ w. w.now) (drop (i + 1) xs))) (most_names - n)
     go e l = rw (e, l) refl

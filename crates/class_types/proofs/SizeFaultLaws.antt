@@ -3,6 +3,7 @@ use Rattle.std.proofs.Common.{◌≡◌, ◌∙◌, sym, ap, subst, refl, ℕ, �
 use Rattle.std.specs.Prelude.{◌||◌, nat_lt, ◌⊎◌, Option, Some, None, MatchOption, Contains, slice_get, if◌then◌else◌}
 use Rattle.std.specs.Option.{option_map}
 use Rattle.std.proofs.lemmas.Bool.Decides.{nat_tests}
+use Rattle.mono_syntax.specs.Limits.{most_fields, most_parameters, most_arguments, most_names}
 use Rattle.mono_syntax.specs.declared.leaf.Place.{Place}
 use Rattle.mono_syntax.specs.declared.leaf.Word.{Word}
 use Rattle.mono_syntax.specs.declared.refusal.Reason.{Reason}
@@ -194,7 +195,7 @@ module _ (s : Script) (own : List (Option Size)) (m : AreMeasured (class_list s)
 
   part-from : (p : Part) (r : Refusal) → In p (parts_of s.items) → In r (part_faults named p) → SizeFault s r.place r.reason
   part-from (arguments c) r h f =
-      let there = count-from TooManyArguments 64 c r f in
+      let there = count-from TooManyArguments most_arguments c r f in
       moved s c.place TooManyArguments r there.1 (λ q e. many_arguments c (in-contains _ _ h) there.0 e)
   part-from (annotation a) r h f = elim (in-cases r (type_fault (place_of a) (size_by named a)) (wides (callables a)) f) [
     | inl large ↦
@@ -202,7 +203,7 @@ module _ (s : Script) (own : List (Option Size)) (m : AreMeasured (class_list s)
         moved s (place_of a) TypeTooLarge r there.3 (λ q e. large_type a there.0 (in-contains _ _ h) (made-writes (class_list s) m.own m.settled a there.0 there.1) there.2 e)
     | inr broad ↦
         let c = wides-from (callables a) r broad in
-        let there = count-from TooManyParameters 8 c.0 r c.2 in
+        let there = count-from TooManyParameters most_parameters c.0 r c.2 in
         moved s c.0.place TooManyParameters r there.1 (λ q e. wide_callable a c.0 (in-contains _ _ h) (in-contains _ _ c.1) there.0 e)
   ]
 
@@ -210,37 +211,37 @@ module _ (s : Script) (own : List (Option Size)) (m : AreMeasured (class_list s)
   own-from (item.Stmt x) r h f = absurd f
   own-from (item.Class d) r h f =
       let counted : Counted = record { place = d.name.place; count = length d.fields } in
-      elim (in-cases r (type_fault d.name.place (class_size_by named d)) (count_fault TooManyFields 64 (record { place = d.name.place; count = length d.fields })) f) [
+      elim (in-cases r (type_fault d.name.place (class_size_by named d)) (count_fault TooManyFields most_fields (record { place = d.name.place; count = length d.fields })) f) [
         | inl large ↦
             let there = type-from d.name.place (class_by typed d) r (subst (λ o. In r (type_fault d.name.place o)) (class-size named typed same d) large) in
             moved s d.name.place TypeTooLarge r there.3 (λ q e. large_class d there.0 (in-contains _ _ (class-in s.items d h)) (made-class (class_list s) m.own m.settled d there.0 there.1) there.2 e)
         | inr many ↦
-            let there = count-from TooManyFields 64 (record { place = d.name.place; count = length d.fields }) r many in
+            let there = count-from TooManyFields most_fields (record { place = d.name.place; count = length d.fields }) r many in
             moved s d.name.place TooManyFields r there.1 (λ q e. many_fields d (in-contains _ _ (class-in s.items d h)) there.0 e)
       ]
   own-from (item.Def d) r h f =
-      elim (in-cases r (type_fault d.name.place (function_size_by named d) ++ count_fault TooManyParameters 8 (record { place = d.name.place; count = length d.params })) (name_fault (slice_get (block_names d.params d.body) 4096)) f) [
-        | inl first ↦ elim (in-cases r (type_fault d.name.place (function_size_by named d)) (count_fault TooManyParameters 8 (record { place = d.name.place; count = length d.params })) first) [
+      elim (in-cases r (type_fault d.name.place (function_size_by named d) ++ count_fault TooManyParameters most_parameters (record { place = d.name.place; count = length d.params })) (name_fault (slice_get (block_names d.params d.body) most_names)) f) [
+        | inl first ↦ elim (in-cases r (type_fault d.name.place (function_size_by named d)) (count_fault TooManyParameters most_parameters (record { place = d.name.place; count = length d.params })) first) [
           | inl large ↦
               let there = type-from d.name.place (function_by typed d) r (subst (λ o. In r (type_fault d.name.place o)) (function-size named typed same d) large) in
               moved s d.name.place TypeTooLarge r there.3 (λ q e. large_function d there.0 (in-contains _ _ (function-in s.items d h)) (function-is (class_list s) m.own m.settled d there.0 there.1) there.2 e)
           | inr many ↦
-              let there = count-from TooManyParameters 8 (record { place = d.name.place; count = length d.params }) r many in
+              let there = count-from TooManyParameters most_parameters (record { place = d.name.place; count = length d.params }) r many in
               moved s d.name.place TooManyParameters r there.1 (λ q e. many_parameters d (in-contains _ _ (function-in s.items d h)) there.0 e)
         ]
         | inr names ↦
-            let there = name-from (slice_get (block_names d.params d.body) 4096) r names in
+            let there = name-from (slice_get (block_names d.params d.body) most_names) r names in
             moved s there.0.place TooManyNames r there.2 (λ q e. crowded_function d there.0 (in-contains _ _ (function-in s.items d h)) there.1 e)
       ]
 
   pub fault-from : (r : Refusal) → In r (script_faults named s.items) → SizeFault s r.place r.reason
-  fault-from r h = elim (in-cases r (items_faults named s.items) (name_fault (slice_get (block_names [] (statements_of s.items)) 4096)) h) [
+  fault-from r h = elim (in-cases r (items_faults named s.items) (name_fault (slice_get (block_names [] (statements_of s.items)) most_names)) h) [
     | inl items ↦ elim (items-from named s.items r items) [
       | inl i ↦ own-from i.0 r i.1 i.2
       | inr p ↦ part-from p.0 r p.1 p.2
     ]
     | inr names ↦
-        let there = name-from (slice_get (block_names [] (statements_of s.items)) 4096) r names in
+        let there = name-from (slice_get (block_names [] (statements_of s.items)) most_names) r names in
         moved s there.0.place TooManyNames r there.2 (λ q e. crowded_main there.0 there.1 e)
   ]
 
@@ -252,7 +253,7 @@ module _ (s : Script) (own : List (Option Size)) (m : AreMeasured (class_list s)
   here p q x e = subst (λ y. In (record { place = y; reason = x }) (script_faults named s.items)) (sym e)
 
   abbrev main_names : List Refusal
-  main_names = name_fault (slice_get (block_names [] (statements_of s.items)) 4096)
+  main_names = name_fault (slice_get (block_names [] (statements_of s.items)) most_names)
 
   class-to : (d : ClassDef) (r : Refusal) → Contains (class_list s) d → In r (own_faults named (item.Class d)) → In r (script_faults named s.items)
   class-to d r h f = in-left r (items_faults named s.items) main_names (own-to named s.items (item.Class d) r (in-class s.items d (contains-in d (class_list s) h)) f)
@@ -265,13 +266,13 @@ module _ (s : Script) (own : List (Option Size)) (m : AreMeasured (class_list s)
 
   pub fault-to : (p : Place) (x : Reason) → SizeFault s p x → In (fault_at p x) (script_faults named s.items)
   fault-to p x (large_class d t h is large e) = here p d.name.place TypeTooLarge e (class-to d (fault_at d.name.place TypeTooLarge) h
-      (in-left (fault_at d.name.place TypeTooLarge) (type_fault d.name.place (class_size_by named d)) (count_fault TooManyFields 64 (record { place = d.name.place; count = length d.fields }))
+      (in-left (fault_at d.name.place TypeTooLarge) (type_fault d.name.place (class_size_by named d)) (count_fault TooManyFields most_fields (record { place = d.name.place; count = length d.fields }))
       (subst (λ o. In (fault_at d.name.place TypeTooLarge) (type_fault d.name.place o)) (sym (class-size named typed same d))
       (type-to d.name.place (class_by typed d) t (class-made (class_list s) m.own m.settled d t is) large))))
   fault-to p x (large_function d t h is large e) = here p d.name.place TypeTooLarge e (function-to d (fault_at d.name.place TypeTooLarge) h
-      (in-left (fault_at d.name.place TypeTooLarge) (type_fault d.name.place (function_size_by named d) ++ count_fault TooManyParameters 8 (record { place = d.name.place; count = length d.params }))
-      (name_fault (slice_get (block_names d.params d.body) 4096))
-      (in-left (fault_at d.name.place TypeTooLarge) (type_fault d.name.place (function_size_by named d)) (count_fault TooManyParameters 8 (record { place = d.name.place; count = length d.params }))
+      (in-left (fault_at d.name.place TypeTooLarge) (type_fault d.name.place (function_size_by named d) ++ count_fault TooManyParameters most_parameters (record { place = d.name.place; count = length d.params }))
+      (name_fault (slice_get (block_names d.params d.body) most_names))
+      (in-left (fault_at d.name.place TypeTooLarge) (type_fault d.name.place (function_size_by named d)) (count_fault TooManyParameters most_parameters (record { place = d.name.place; count = length d.params }))
       (subst (λ o. In (fault_at d.name.place TypeTooLarge) (type_fault d.name.place o)) (sym (function-size named typed same d))
       (type-to d.name.place (function_by typed d) t (is-function (class_list s) m.own m.settled d t is) large)))))
   fault-to p x (large_type a t h w large e) = here p (place_of a) TypeTooLarge e (some-part (annotation a) (fault_at (place_of a) TypeTooLarge) h
@@ -279,23 +280,23 @@ module _ (s : Script) (own : List (Option Size)) (m : AreMeasured (class_list s)
       (subst (λ o. In (fault_at (place_of a) TypeTooLarge) (type_fault (place_of a) o)) (sym (size-type named typed same a))
       (type-to (place_of a) (type_by typed a) t (writes-made (class_list s) m.own m.settled w) large))))
   fault-to p x (many_fields d h more e) = here p d.name.place TooManyFields e (class-to d (fault_at d.name.place TooManyFields) h
-      (in-right (fault_at d.name.place TooManyFields) (type_fault d.name.place (class_size_by named d)) (count_fault TooManyFields 64 (record { place = d.name.place; count = length d.fields }))
-      (count-to TooManyFields 64 (record { place = d.name.place; count = length d.fields }) more)))
+      (in-right (fault_at d.name.place TooManyFields) (type_fault d.name.place (class_size_by named d)) (count_fault TooManyFields most_fields (record { place = d.name.place; count = length d.fields }))
+      (count-to TooManyFields most_fields (record { place = d.name.place; count = length d.fields }) more)))
   fault-to p x (many_parameters d h more e) = here p d.name.place TooManyParameters e (function-to d (fault_at d.name.place TooManyParameters) h
-      (in-left (fault_at d.name.place TooManyParameters) (type_fault d.name.place (function_size_by named d) ++ count_fault TooManyParameters 8 (record { place = d.name.place; count = length d.params }))
-      (name_fault (slice_get (block_names d.params d.body) 4096))
-      (in-right (fault_at d.name.place TooManyParameters) (type_fault d.name.place (function_size_by named d)) (count_fault TooManyParameters 8 (record { place = d.name.place; count = length d.params }))
-      (count-to TooManyParameters 8 (record { place = d.name.place; count = length d.params }) more))))
+      (in-left (fault_at d.name.place TooManyParameters) (type_fault d.name.place (function_size_by named d) ++ count_fault TooManyParameters most_parameters (record { place = d.name.place; count = length d.params }))
+      (name_fault (slice_get (block_names d.params d.body) most_names))
+      (in-right (fault_at d.name.place TooManyParameters) (type_fault d.name.place (function_size_by named d)) (count_fault TooManyParameters most_parameters (record { place = d.name.place; count = length d.params }))
+      (count-to TooManyParameters most_parameters (record { place = d.name.place; count = length d.params }) more))))
   fault-to p x (wide_callable a c h there more e) = here p c.place TooManyParameters e (some-part (annotation a) (fault_at c.place TooManyParameters) h
       (in-right (fault_at c.place TooManyParameters) (type_fault (place_of a) (size_by named a)) (wides (callables a))
-      (wides-to (callables a) c (fault_at c.place TooManyParameters) (contains-in c (callables a) there) (count-to TooManyParameters 8 c more))))
-  fault-to p x (many_arguments c h more e) = here p c.place TooManyArguments e (some-part (arguments c) (fault_at c.place TooManyArguments) h (count-to TooManyArguments 64 c more))
+      (wides-to (callables a) c (fault_at c.place TooManyParameters) (contains-in c (callables a) there) (count-to TooManyParameters most_parameters c more))))
+  fault-to p x (many_arguments c h more e) = here p c.place TooManyArguments e (some-part (arguments c) (fault_at c.place TooManyArguments) h (count-to TooManyArguments most_arguments c more))
   fault-to p x (crowded_function d w h is e) = here p w.place TooManyNames e (function-to d (fault_at w.place TooManyNames) h
-      (in-right (fault_at w.place TooManyNames) (type_fault d.name.place (function_size_by named d) ++ count_fault TooManyParameters 8 (record { place = d.name.place; count = length d.params }))
-      (name_fault (slice_get (block_names d.params d.body) 4096))
-      (name-to (slice_get (block_names d.params d.body) 4096) w is)))
+      (in-right (fault_at w.place TooManyNames) (type_fault d.name.place (function_size_by named d) ++ count_fault TooManyParameters most_parameters (record { place = d.name.place; count = length d.params }))
+      (name_fault (slice_get (block_names d.params d.body) most_names))
+      (name-to (slice_get (block_names d.params d.body) most_names) w is)))
   fault-to p x (crowded_main w is e) = here p w.place TooManyNames e (in-right (fault_at w.place TooManyNames) (items_faults named s.items) main_names
-      (name-to (slice_get (block_names [] (statements_of s.items)) 4096) w is))
+      (name-to (slice_get (block_names [] (statements_of s.items)) most_names) w is))
 
   -- the first that is found is the first fault of size
   pub first-fault : (r : Option Refusal) → r ≡ first_from None (script_faults named s.items) → MatchOption r (IsFaultless (SizeFault s)) (IsFirst (SizeFault s))

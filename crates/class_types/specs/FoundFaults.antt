@@ -1,5 +1,6 @@
 -- The faults of size in the order in which they are looked for, and the first of them.
 use Rattle.std.specs.Prelude.{◌≡◌, ◌⊎◌, ℕ, nat_lt, List, [], ◌∷◌, ◌++◌, Option, Some, None, length, slice_get, if◌then◌else◌}
+use Rattle.mono_syntax.specs.Limits.{most_fields, most_parameters, most_arguments, most_names}
 use Rattle.mono_syntax.specs.declared.leaf.Place.{Place}
 use Rattle.mono_syntax.specs.declared.leaf.Word.{Word}
 use Rattle.mono_syntax.specs.declared.refusal.Reason.{Reason}
@@ -32,7 +33,7 @@ abbrev pub count_fault : Reason → ℕ → Counted → List Refusal
 count_fault r most c = if nat_lt most c.count then record { place = c.place; reason = r } ∷ [] else []
 
 abbrev pub wide : Counted → List Refusal
-wide c = count_fault TooManyParameters 8 c
+wide c = count_fault TooManyParameters most_parameters c
 
 abbrev pub wides : List Counted → List Refusal
 wides [] = []
@@ -40,7 +41,7 @@ wides (c ∷ cs) = wide c ++ wides cs
 
 abbrev pub part_faults : (List ℕ → Option Size) → Part → List Refusal
 part_faults named (annotation a) = type_fault (place_of a) (size_by named a) ++ wides (callables a)
-part_faults named (arguments c) = count_fault TooManyArguments 64 c
+part_faults named (arguments c) = count_fault TooManyArguments most_arguments c
 
 abbrev pub parts_faults : (List ℕ → Option Size) → List Part → List Refusal
 parts_faults named [] = []
@@ -52,9 +53,9 @@ name_fault (Some w) = record { place = w.place; reason = TooManyNames } ∷ []
 
 -- the faults of an item itself
 abbrev pub own_faults : (List ℕ → Option Size) → Item → List Refusal
-own_faults named (item.Class d) = type_fault d.name.place (class_size_by named d) ++ count_fault TooManyFields 64 (record { place = d.name.place; count = length d.fields })
-own_faults named (item.Def d) = type_fault d.name.place (function_size_by named d) ++ count_fault TooManyParameters 8 (record { place = d.name.place; count = length d.params })
-    ++ name_fault (slice_get (block_names d.params d.body) 4096)
+own_faults named (item.Class d) = type_fault d.name.place (class_size_by named d) ++ count_fault TooManyFields most_fields (record { place = d.name.place; count = length d.fields })
+own_faults named (item.Def d) = type_fault d.name.place (function_size_by named d) ++ count_fault TooManyParameters most_parameters (record { place = d.name.place; count = length d.params })
+    ++ name_fault (slice_get (block_names d.params d.body) most_names)
 own_faults named (item.Stmt s) = []
 
 -- the faults of items, and of what stands in them
@@ -63,7 +64,7 @@ items_faults named [] = []
 items_faults named (i ∷ is) = own_faults named i ++ parts_faults named (item_parts i) ++ items_faults named is
 
 abbrev pub script_faults : (List ℕ → Option Size) → List Item → List Refusal
-script_faults named is = items_faults named is ++ name_fault (slice_get (block_names [] (statements_of is)) 4096)
+script_faults named is = items_faults named is ++ name_fault (slice_get (block_names [] (statements_of is)) most_names)
 
 -- x is one of these
 abbrev pub In : {A : Type 0} → A → List A → Type 0

@@ -1,4 +1,5 @@
 ghost use Rattle.std.specs.Prelude.{◌≡◌, ◌++◌, [], map, length, slice_get, IfOk};
+ghost use Rattle.mono_syntax.specs.Limits.{most_names};
 ghost use Rattle.mono_syntax.specs.StmtView.{block, branches, else_block};
 ghost use Rattle.class_types.specs.FoundFaults.{first_from, name_fault};
 ghost use Rattle.class_types.specs.NewNames.{known, new_words};
@@ -6,12 +7,11 @@ ghost use Rattle.script_rules.specs.SourceParts.{bound, block_bound, branch_boun
 ghost use Rattle.script_rules.specs.Definitions.{statements_of};
 
 use crate::first::sooner;
-use mono_syntax::{Branch, FuncDef, Item, Name, Param, Reason, Refusal, Stmt, StmtKind, Word};
+use mono_syntax::{
+    Branch, FuncDef, Item, MOST_NAMES, Name, Param, Reason, Refusal, Stmt, StmtKind, Word,
+};
 use sqlite_items::Items;
 use std::alloc::{AllocError, Global};
-
-/// How many names a block may have.
-const MOST_NAMES: usize = 4096;
 
 /// The words so far, and those that a statement assigns or starts.
 #[cycle(bound)]
@@ -114,7 +114,7 @@ fn crowded(
     so_far: Option<Refusal>,
     words: &[&Word],
 ) -> Result<Option<Refusal>, AllocError>
-    ensures { IfOk result (λ r. r ≡ first_from so_far (name_fault (slice_get (new_words [] (map (λ w. w.now) words.now)) 4096))) }
+    ensures { IfOk result (λ r. r ≡ first_from so_far (name_fault (slice_get (new_words [] (map (λ w. w.now) words.now)) most_names))) }
 {
     let mut seen = Vec::new(alloc);
     for word in words {
@@ -136,7 +136,7 @@ pub fn main_faults(
     so_far: Option<Refusal>,
     items: &[Item],
 ) -> Result<Option<Refusal>, AllocError>
-    ensures { IfOk result (λ r. r ≡ first_from so_far (name_fault (slice_get (block_names [] (statements_of items.now)) 4096))) }
+    ensures { IfOk result (λ r. r ≡ first_from so_far (name_fault (slice_get (block_names [] (statements_of items.now)) most_names))) }
 {
     let words = bound_in_main(Vec::new(alloc), items)?;
     crowded(alloc, so_far, words.as_slice())
@@ -148,7 +148,7 @@ pub fn names_faults(
     so_far: Option<Refusal>,
     function: &FuncDef,
 ) -> Result<Option<Refusal>, AllocError>
-    ensures { IfOk result (λ r. r ≡ first_from so_far (name_fault (slice_get (block_names function.now.params function.now.body) 4096))) }
+    ensures { IfOk result (λ r. r ≡ first_from so_far (name_fault (slice_get (block_names function.now.params function.now.body) most_names))) }
 {
     let params = named(Vec::new(alloc), function.params.as_slice())?;
     let words = bound_in_body(params, function.body.as_slice())?;

@@ -7,7 +7,7 @@ ghost use Rattle.script_rules.specs.SourceParts.{annotation, arguments, callable
 use crate::first::sooner;
 use crate::measure::size_of;
 use crate::names::ClassNames;
-use mono_syntax::{Ann, AnnForm, Place, Reason, Refusal};
+use mono_syntax::{Ann, AnnForm, MOST_PARAMETERS, Place, Reason, Refusal};
 use mono_tree::Size;
 
 /// The sizes of the types of classes, by the classes' names.
@@ -47,7 +47,7 @@ pub fn count_fault(
     }
 }
 
-/// A Callable in an annotation has over 8 parameters.
+/// A Callable in an annotation has too many parameters.
 #[cycle(wide)]
 #[tactic(auto, using(crate::proofs::FoundLaws::found_steps))]
 fn wide(so_far: Option<Refusal>, ann: &Ann) -> Option<Refusal>
@@ -56,7 +56,7 @@ fn wide(so_far: Option<Refusal>, ann: &Ann) -> Option<Refusal>
     match &ann.what {
         AnnForm::Fun(params, out) => {
             let reason = Reason::TooManyParameters;
-            let so_far = count_fault(so_far, reason, 8, ann.place, params.len());
+            let so_far = count_fault(so_far, reason, MOST_PARAMETERS, ann.place, params.len());
             let so_far = wide_all(so_far, params.as_slice());
             wide(so_far, out.get())
         }

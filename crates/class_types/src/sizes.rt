@@ -16,7 +16,10 @@ use crate::names::names_of;
 use crate::settle::classes_of;
 use crate::sized::sized;
 use crate::walk::{any_ann_faults, stmt_faults};
-use mono_syntax::{ClassDef, FieldDef, FuncDef, Item, Param, Reason, Refusal, Script, Stmt};
+use mono_syntax::{
+    ClassDef, FieldDef, FuncDef, Item, MOST_FIELDS, MOST_PARAMETERS, Param, Reason, Refusal, Script,
+    Stmt,
+};
 use std::alloc::{AllocError, Global};
 
 /// The faults in the annotations of fields.
@@ -60,7 +63,7 @@ fn class_faults(sizes: &Sizes, so_far: Option<Refusal>, class: &ClassDef) -> Opt
     let size = size_of_class(&sizes.names, sizes.own.as_slice(), None, class);
     let so_far = type_fault(so_far, class.name.place, size);
     let (reason, count) = (Reason::TooManyFields, class.fields.len());
-    count_fault(so_far, reason, 64, class.name.place, count)
+    count_fault(so_far, reason, MOST_FIELDS, class.name.place, count)
 }
 
 /// A function's type is too large, it has over 8 parameters, or its block over 4,096 names.
@@ -76,7 +79,7 @@ fn function_faults(
     let size = size_of_function(&sizes.names, sizes.own.as_slice(), None, function);
     let so_far = type_fault(so_far, function.name.place, size);
     let (reason, count) = (Reason::TooManyParameters, function.params.len());
-    let so_far = count_fault(so_far, reason, 8, function.name.place, count);
+    let so_far = count_fault(so_far, reason, MOST_PARAMETERS, function.name.place, count);
     names_faults(alloc, so_far, function)
 }
 

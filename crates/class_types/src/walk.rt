@@ -1,4 +1,5 @@
 ghost use Rattle.std.specs.Prelude.{◌≡◌, ◌++◌, length, None};
+ghost use Rattle.mono_syntax.specs.Limits.{most_arguments};
 ghost use Rattle.mono_syntax.specs.declared.refusal.Reason.TheVariants.{TooManyArguments};
 ghost use Rattle.mono_syntax.specs.ExprView.{exprs};
 ghost use Rattle.mono_syntax.specs.StmtView.{block, branches, else_block};
@@ -7,14 +8,16 @@ ghost use Rattle.class_types.specs.Made.{look};
 ghost use Rattle.script_rules.specs.SourceParts.{expr_parts, exprs_parts, any_ann, any_expr, stmt_parts, block_parts, branch_parts, else_parts};
 
 use crate::faults::{Sizes, ann_faults, count_fault};
-use mono_syntax::{Ann, Branch, Expr, ExprKind, Place, Reason, Refusal, Stmt, StmtKind};
+use mono_syntax::{
+    Ann, Branch, Expr, ExprKind, MOST_ARGUMENTS, Place, Reason, Refusal, Stmt, StmtKind,
+};
 use sqlite_items::Items;
 
-/// A call, a print or a start has over 64 arguments.
+/// A call, a print or a start has too many arguments.
 fn many_arguments(so_far: Option<Refusal>, place: Place, list: &[Expr]) -> Option<Refusal>
-    ensures { result ≡ first_from so_far (count_fault TooManyArguments 64 (record { place = place; count = length list.now })) }
+    ensures { result ≡ first_from so_far (count_fault TooManyArguments most_arguments (record { place = place; count = length list.now })) }
 {
-    count_fault(so_far, Reason::TooManyArguments, 64, place, list.len())
+    count_fault(so_far, Reason::TooManyArguments, MOST_ARGUMENTS, place, list.len())
 }
 
 /// The faults in an expression: of the types of its casts, and of its lists of arguments.

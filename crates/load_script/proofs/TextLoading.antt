@@ -2,6 +2,7 @@
 use Rattle.std.proofs.Common.{◌≡◌, ◌⊎◌, inl, inr, ℕ, ◌≤◌, List, length, Result, Ok, Err, IfOk, IfErr, refl, sym, ◌∙◌, subst, ap, arith}
 use Rattle.std.specs.Prelude.{chars}
 use Rattle.std.specs.Str.{IsUtf8}
+use Rattle.mono_syntax.specs.Limits.{most_bytes}
 use Rattle.mono_syntax.specs.declared.cast.CastScript.{CastScript}
 use Rattle.mono_syntax.specs.declared.refusal.LoadFault.{LoadFault}
 use Rattle.mono_syntax.specs.declared.refusal.LoadFault.TheVariants.{Refused, Memory}
@@ -74,24 +75,24 @@ lex_refuses text f accepts refuses q (in_tokens {tokens = us} l g) = inr (accept
 
 -- ---- bytes
 
-pub text_program : (bytes text : List ℕ) → length bytes ≤ 1048576 → text ≡ bytes → IsUtf8 bytes → (r : Result CastScript LoadFault)
+pub text_program : (bytes text : List ℕ) → length bytes ≤ most_bytes → text ≡ bytes → IsUtf8 bytes → (r : Result CastScript LoadFault)
     → IfOk r (IsTextProgram text) → IfOk r (IsProgramOf bytes)
 text_program bytes text l e u (Ok p) h = record { fits = l; is_text = u; program = subst (λ (t : List ℕ). IsTextProgram t p) e h }
 text_program bytes text l e u (Err f) h = tt
 
-pub text_fault : (bytes text : List ℕ) → length bytes ≤ 1048576 → text ≡ bytes → IsUtf8 bytes → (r : Result CastScript LoadFault)
+pub text_fault : (bytes text : List ℕ) → length bytes ≤ most_bytes → text ≡ bytes → IsUtf8 bytes → (r : Result CastScript LoadFault)
     → IfErr r (IsFault (RefusesText text)) → IfErr r (IsFault (IsFirstRefusal bytes))
 text_fault bytes text l e u (Ok p) h = tt
 text_fault bytes text l e u (Err (Refused q)) h = in_text l u (subst (λ (t : List ℕ). RefusesText t q) e h)
 text_fault bytes text l e u (Err Memory) h = tt
 
-pub text_refuses : (bytes text : List ℕ) → length bytes ≤ 1048576 → text ≡ bytes → IsUtf8 bytes → (r : Result CastScript LoadFault)
+pub text_refuses : (bytes text : List ℕ) → length bytes ≤ most_bytes → text ≡ bytes → IsUtf8 bytes → (r : Result CastScript LoadFault)
     → ((q : Refusal) → RefusesText text q → Gives r q) → (q : Refusal) → IsFirstRefusal bytes q → Gives r q
 text_refuses bytes text l e u r h q (long b) = absurd (omega (arith, l, b))
 text_refuses bytes text l e u r h q (undecoded b f) = absurd (f.no_text u)
 text_refuses bytes text l e u r h q (in_text b v f) = h q (subst (λ (t : List ℕ). RefusesText t q) (sym e) f)
 
-pub decode_refuses : (bytes : List ℕ) → length bytes ≤ 1048576 → (r : Refusal) → RefusesBytes bytes r → (q : Refusal) → IsFirstRefusal bytes q
+pub decode_refuses : (bytes : List ℕ) → length bytes ≤ most_bytes → (r : Refusal) → RefusesBytes bytes r → (q : Refusal) → IsFirstRefusal bytes q
     → Gives (no_program (Refused r)) q
 decode_refuses bytes l r h q (long b) = absurd (omega (arith, l, b))
 decode_refuses bytes l r h q (undecoded b f) = inl (ap Refused (h.refused ∙ sym f.refused))

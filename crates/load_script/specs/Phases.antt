@@ -2,6 +2,7 @@
 -- tokens are read as a tree, which comes to its casts as TreePhases says. The first phase that refuses ends it.
 use Rattle.std.specs.Prelude.{ℕ, ◌<◌, ◌≤◌, List, length, chars}
 use Rattle.std.specs.Str.{IsUtf8}
+use Rattle.mono_syntax.specs.Limits.{most_bytes}
 use Rattle.mono_syntax.specs.declared.cast.CastScript.{CastScript}
 use Rattle.mono_syntax.specs.declared.refusal.Reason.TheVariants.{TooLong}
 use Rattle.mono_syntax.specs.declared.refusal.Refusal.{Refusal}
@@ -42,12 +43,12 @@ too_long = record { place = record { line = 1; column = 1 }; reason = TooLong }
 
 -- p is the script of these bytes with its casts
 pub record IsProgramOf (bytes : List ℕ) (p : CastScript) : Type 0 where
-  pub fits : length bytes ≤ 1048576
+  pub fits : length bytes ≤ most_bytes
   pub is_text : IsUtf8 bytes
   pub program : IsTextProgram bytes p
 
 -- the bytes are refused so
 pub data IsFirstRefusal (bytes : List ℕ) : Refusal → Type 0 where
-  long : 1048576 < length bytes → IsFirstRefusal bytes too_long
-  undecoded : {r : Refusal} → length bytes ≤ 1048576 → RefusesBytes bytes r → IsFirstRefusal bytes r
-  in_text : {r : Refusal} → length bytes ≤ 1048576 → IsUtf8 bytes → RefusesText bytes r → IsFirstRefusal bytes r
+  long : most_bytes < length bytes → IsFirstRefusal bytes too_long
+  undecoded : {r : Refusal} → length bytes ≤ most_bytes → RefusesBytes bytes r → IsFirstRefusal bytes r
+  in_text : {r : Refusal} → length bytes ≤ most_bytes → IsUtf8 bytes → RefusesText bytes r → IsFirstRefusal bytes r

@@ -1,5 +1,6 @@
 ghost use Rattle.std.specs.Prelude.{◌≡◌, ◌≤◌, length, chars, IfOk, IfErr};
 ghost use Rattle.std.specs.Str.{IsUtf8};
+ghost use Rattle.mono_syntax.specs.Limits.{most_bytes};
 ghost use Rattle.mono_syntax.specs.declared.refusal.Refusal.{Refusal};
 ghost use Rattle.mono_tree.specs.TypedPrograms.{IsTypedProgram};
 ghost use Rattle.py_lexer.specs.Lexes.{Lexes};
@@ -72,7 +73,7 @@ fn load_tree(alloc: Global, script: &Script) -> Result<CastScript, LoadFault>
 }
 
 fn load_tokens(alloc: Global, tokens: &[Token], text: &str) -> Result<CastScript, LoadFault>
-    requires length { length text.now ≤ 1048576 }
+    requires length { length text.now ≤ most_bytes }
     requires lexed { Lexes (chars text.now) tokens.now }
     ensures accepted { IfOk result (IsTokensProgram text.now tokens.now) }
     ensures refused { IfErr result (IsFault (RefusesTokens text.now tokens.now)) }
@@ -86,7 +87,7 @@ fn load_tokens(alloc: Global, tokens: &[Token], text: &str) -> Result<CastScript
 }
 
 fn load_text(alloc: Global, text: &str) -> Result<CastScript, LoadFault>
-    requires { length text.now ≤ 1048576 }
+    requires { length text.now ≤ most_bytes }
     ensures accepted { IfOk result (IsTextProgram text.now) }
     ensures refused { IfErr result (IsFault (RefusesText text.now)) }
     ensures refuses { (r : Refusal) → RefusesText text.now r → Gives result r }
@@ -102,7 +103,7 @@ fn load_text(alloc: Global, text: &str) -> Result<CastScript, LoadFault>
 /// and then its forms, its sizes, its names and its types are looked at. A form that the program doesn't run so far, and a
 /// fault of size, are refused as not built yet.
 pub fn load(alloc: Global, bytes: &[u8]) -> Result<CastScript, LoadFault>
-    requires { length bytes.now ≤ 1048576 }
+    requires { length bytes.now ≤ most_bytes }
     ensures accepted { IfOk result (IsProgramOf bytes.now) }
     ensures refused { IfErr result (IsFault (IsFirstRefusal bytes.now)) }
 

@@ -1,5 +1,6 @@
 -- The answer of a command.
 use Rattle.std.proofs.Common.{ap, ◌∙◌, ℕ, zero, suc, ◌≡◌, ◌≤◌, ◌<◌, List, [], ◌∷◌, length, Option, Some, None, ◌⊎◌, inl, inr, arith, refl, sym, subst}
+use Rattle.mono_syntax.specs.Limits.{most_bytes}
 use Rattle.mono_syntax.specs.declared.refusal.Refusal.{Refusal}
 use Rattle.mono_io.specs.Faults.{Rose, IsTold, IsTooLong}
 use Rattle.cast_machine.specs.declared.data.End.{End}
@@ -25,8 +26,8 @@ longer : (told : Option (List ℕ)) (n : ℕ) → IsTooLong told n → (bytes : 
 longer None n h = let some = more_zeros n in (some.0, tt, some.1)
 longer (Some bytes) n h = (bytes, refl, h)
 
-pub long_told : (v : Verb) (told : Option (List ℕ)) → IsTooLong told 1048576 → (a : Answer) → a ≡ refused too_long → AnswersTold v told a
-long_told v told h a e = let some = longer told 1048576 h in record { bytes = some.0; are_told = some.1; answers = long_answers v some.0 some.2 a e }
+pub long_told : (v : Verb) (told : Option (List ℕ)) → IsTooLong told most_bytes → (a : Answer) → a ≡ refused too_long → AnswersTold v told a
+long_told v told h a e = let some = longer told most_bytes h in record { bytes = some.0; are_told = some.1; answers = long_answers v some.0 some.2 a e }
 
 ended_most : (e : End) → status_of_end e ≤ 6
 ended_most ends.Done = omega arith
@@ -58,7 +59,7 @@ answer_most v (Some file) told s t a (inl h) = text_most v h.bytes a (h.answers)
 answer_most v (Some file) told s t a (inr h) = status_along a unfetched h.1 (omega arith)
 
 -- the refusal of too many bytes is shown in answer to a command that names a file
-pub shows_long : (v : Verb) (file : Option (List ℕ)) (name : List ℕ) → Some name ≡ file → (told : List ℕ → Option (List ℕ)) (s t : ℕ) → IsTooLong (told name) 1048576 →
+pub shows_long : (v : Verb) (file : Option (List ℕ)) (name : List ℕ) → Some name ≡ file → (told : List ℕ → Option (List ℕ)) (s t : ℕ) → IsTooLong (told name) most_bytes →
     (out out' : Option (List ℕ)) (o o' : ℕ) (err err' : Option (List ℕ)) (e e' status : ℕ) →
     Shows (λ a. a ≡ refused too_long) out out' o o' err err' e e' status → Shows (λ a. IsAnswer v file told s t a) out out' o o' err err' e e' status
 shows_long v file name is told s t h out out' o o' err err' e e' status shown =

@@ -1,5 +1,6 @@
 -- The answer to a text.
 use Rattle.std.proofs.Common.{ℕ, ◌≡◌, ◌<◌, List, length, ◌⊎◌, inl, inr, arith, refl, ap, ◌∙◌}
+use Rattle.mono_syntax.specs.Limits.{most_bytes}
 use Rattle.mono_syntax.specs.declared.cast.CastScript.{CastScript}
 use Rattle.mono_syntax.specs.declared.refusal.LoadFault.TheVariants.{Refused, Memory}
 use Rattle.mono_syntax.specs.declared.refusal.Refusal.{Refusal}
@@ -23,12 +24,12 @@ refusal_answers v text r i only a e = record {
   answers = inl (record { refusal = r; first = i; says = e });
 }
 
-long_only : (text : List ℕ) → 1048576 < length text → (q : Refusal) → IsFirstRefusal text q → too_long ≡ q
+long_only : (text : List ℕ) → most_bytes < length text → (q : Refusal) → IsFirstRefusal text q → too_long ≡ q
 long_only text l q (long b) = refl
 long_only text l q (undecoded b f) = absurd (omega (arith, l, b))
 long_only text l q (in_text b u f) = absurd (omega (arith, l, b))
 
-pub long_answers : (v : Verb) (text : List ℕ) → 1048576 < length text → (a : Answer) → a ≡ refused too_long → AnswersText v text a
+pub long_answers : (v : Verb) (text : List ℕ) → most_bytes < length text → (a : Answer) → a ≡ refused too_long → AnswersText v text a
 long_answers v text l a e = record {
   refuses = λ q f. e ∙ ap refused (long_only text l q f);
   answers = inl (record { refusal = too_long; first = long l; says = e });

@@ -3,6 +3,7 @@ ghost use Rattle.mono_tree.specs.TypedPrograms.{IsTypedProgram};
 ghost use Rattle.mono_cli.specs.Scripts.{RunsTo, AnswersText, IsAccepted, IsRunAnswer};
 ghost use Rattle.mono_cli.specs.Showing.{Shows};
 ghost use Rattle.tree_print.specs.ReadsBack.{IsGrammatical};
+ghost use Rattle.mono_syntax.specs.Limits.{most_bytes};
 
 use crate::ends::{end_text, status_of_end};
 use crate::listing::show_listing;
@@ -85,7 +86,7 @@ pub fn show_text<K: Sink, E: Sink>(
     out: &mut K,
     err: &mut E,
 ) -> u8
-    requires { length text.now ≤ 1048576 }
+    requires { length text.now ≤ most_bytes }
     ensures { Shows (λ a. AnswersText verb text.now a) (K.told out.old) (K.told out.new) (K.faults out.old) (K.faults out.new)
         (E.told err.old) (E.told err.new) (E.faults err.old) (E.faults err.new) result }
 {

@@ -12,10 +12,12 @@ use crate::run::show_text;
 use crate::show::show_line;
 use crate::words::{asked, file_of};
 use mono_io::{Shelf, ShelfFault, Sink};
+use mono_syntax::MOST_BYTES;
 use mono_tree::{Place, Reason, Refusal};
 use std::alloc::Global;
 
-const LIMIT: u64 = 1_048_576;
+/// The bytes of a script, at most.
+const LIMIT: u64 = MOST_BYTES as u64;
 
 const TOO_LONG: Refusal = Refusal {
     place: Place { line: 1, column: 1 },

@@ -2,6 +2,7 @@
 use Rattle.std.proofs.Common.{◌≡◌, ℕ, true, ◌&&◌, List, [], ◌∷◌, refl, sym, ◌∙◌, ap}
 use Rattle.std.specs.Prelude.{Option, Some, None, is_some}
 use Rattle.std.proofs.lemmas.Bool.{and_parts, and_from, leb-true, le-leb}
+use Rattle.mono_syntax.specs.Limits.{greatest_integer}
 use Rattle.mono_syntax.specs.declared.cast.NamedType.{NamedType}
 use Rattle.mono_syntax.specs.declared.leaf.Word.{Word}
 use Rattle.mono_syntax.specs.declared.tree.Item.{Item}
@@ -73,7 +74,7 @@ module _ (names : Names) (ks : Known) (known : IsKnown names ks) where
   mutual
     pub fine_built : (e : Expr) → is_fine ks e ≡ true → IsBuilt names e
     fine_built (local w) h = known_name w h
-    fine_built (number p n) h = leb-true n 140737488355327 h
+    fine_built (number p n) h = leb-true n greatest_integer h
     fine_built (text p t) h = tt
     fine_built (truth p b) h = tt
     fine_built (nil p) h = tt
@@ -138,7 +139,7 @@ module _ (names : Names) (ks : Known) (known : IsKnown names ks) where
   mutual
     pub built_fine : (e : Expr) → IsBuilt names e → is_fine ks e ≡ true
     built_fine (local w) h = some_there (type_of_name ks.values w.text) h.0 (name_known w h.0 h.1)
-    built_fine (number p n) h = le-leb n 140737488355327 h
+    built_fine (number p n) h = le-leb n greatest_integer h
     built_fine (text p t) h = refl
     built_fine (truth p b) h = refl
     built_fine (nil p) h = refl

@@ -1,5 +1,6 @@
 -- Whether a script is of the built forms and names what is known, as the code tests it.
 use Rattle.std.specs.Prelude.{List, [], ◌∷◌, Bool, true, false, ◌&&◌, is_some, nat_le}
+use Rattle.mono_syntax.specs.Limits.{greatest_integer}
 use Rattle.mono_syntax.specs.declared.tree.Item.{Item}
 use Rattle.mono_syntax.specs.declared.tree.Item.TheVariants as item
 use Rattle.mono_syntax.specs.Expr.{Expr, local, number, text, truth, nil, neg, negation, binary, both, either, read, call, cast, Exprs, no_exprs, more_exprs}
@@ -18,7 +19,7 @@ is_class ks _ = false
 abbrev mutual
   pub is_fine : Known → Expr → Bool
   is_fine ks (local w) = is_some (type_of_name ks.values w.text)
-  is_fine ks (number p k) = nat_le k 140737488355327
+  is_fine ks (number p k) = nat_le k greatest_integer
   is_fine ks (text p t) = true
   is_fine ks (truth p b) = true
   is_fine ks (nil p) = true

@@ -1,5 +1,6 @@
 ghost use Rattle.std.specs.Prelude.{◌≤◌, length, chars};
 ghost use Rattle.py_lexer.specs.Lexes.{Lexes};
+ghost use Rattle.mono_syntax.specs.Limits.{most_bytes};
 
 use consistency::check;
 use mono_list::Shared;
@@ -23,7 +24,7 @@ fn typed_script(alloc: Global, script: &Script) -> Result<Typed, LoadFault> {
 }
 
 fn typed_tokens(alloc: Global, tokens: &[Token], text: &str) -> Result<Typed, LoadFault>
-    requires length { length text.now ≤ 1048576 }
+    requires length { length text.now ≤ most_bytes }
     requires lexed { Lexes (chars text.now) tokens.now }
 {
     let script = parse(alloc, tokens, text)?;

@@ -1,6 +1,7 @@
 -- The forms that typing is built for so far: classes, and statements that assign, write, print, branch, loop or pass, or are
 -- expressions, of operators, fields, casts and new objects, all of whose names are known.
 use Rattle.std.specs.Prelude.{◌≡◌, ◌≤◌, List, [], ◌∷◌, Some}
+use Rattle.mono_syntax.specs.Limits.{greatest_integer}
 use Rattle.mono_syntax.specs.declared.refusal.Reason.TheVariants.{NotBuilt}
 use Rattle.mono_syntax.specs.declared.refusal.Refusal.{Refusal}
 use Rattle.mono_syntax.specs.declared.tree.Item.{Item}
@@ -15,7 +16,7 @@ use Rattle.typing_rules.specs.Members.{Names, Numbered, class_at}
 abbrev mutual
   pub IsBuilt : Names → Expr → Type 0
   IsBuilt names (local w) = (t : Ty) × (type_of_name names.values w.text ≡ Some t)
-  IsBuilt names (number p k) = k ≤ 140737488355327
+  IsBuilt names (number p k) = k ≤ greatest_integer
   IsBuilt names (text p t) = Unit {0}
   IsBuilt names (truth p b) = Unit {0}
   IsBuilt names (nil p) = Unit {0}

@@ -2,9 +2,10 @@ use Rattle.std.proofs.Common.{◌≡◌, ◌≤◌, ◌-◌, [], map, drop, vec_
 use Rattle.std.specs.Prelude.{slice_get}
 use Rattle.class_types.specs.NewNames.{new_words}
 use Rattle.class_types.proofs.block.crowded.Given as goal
+use Rattle.mono_syntax.specs.Limits.{most_names}
 
 abbrev pub invariant-loop-word : goal.invariant-loop-word
 invariant-loop-word l = record {
-  within : vec_len l.seen ≤ 4096;
-  same : slice_get (new_words (map (λ w. w.now) l.seen.items) (map (λ w. w.now) (drop l.word-index l.words))) (4096 - vec_len l.seen) ≡ slice_get (new_words [] (map (λ w. w.now) l.words)) 4096;
+  within : vec_len l.seen ≤ most_names;
+  same : slice_get (new_words (map (λ w. w.now) l.seen.items) (map (λ w. w.now) (drop l.word-index l.words))) (most_names - vec_len l.seen) ≡ slice_get (new_words [] (map (λ w. w.now) l.words)) most_names;
 }

@@ -9,6 +9,7 @@ use Rattle.script_rules.specs.SourceParts.{block_names}
 use Rattle.class_types.proofs.FoundLaws.{first-append, if_ok}
 use Rattle.class_types.proofs.SizeFaultLaws.{first-fault}
 use Rattle.class_types.proofs.sizes.size_refusal.Goals as goal
+use Rattle.mono_syntax.specs.Limits.{most_names}
 
 pub returns : goal.returns
 returns c =
@@ -18,5 +19,5 @@ returns c =
     let names : c.in_ok-sizes.sizes.names ≡ names_of_classes (class_list s) = subst (λ l. c.in_ok-sizes.sizes.names ≡ names_of_classes (classes_of l)) items c.in_ok-sizes.ensures.names in
     let shown = c.as_slice-items.result.now in
     let named = look c.in_ok-sizes.sizes.names c.in_ok-sizes.sizes.own.items None in
-    let crowded = name_fault (slice_get (block_names [] (statements_of shown)) 4096) in
+    let crowded = name_fault (slice_get (block_names [] (statements_of shown)) most_names) in
     if_ok _ _ _ (λ r e. first-fault s c.in_ok-sizes.sizes.own.items own r (e ∙ (ap (λ o. first_from o crowded) c.in_ok-so_far.ensures ∙ (sym (first-append None (items_faults named shown) crowded) ∙ (λ i. first_from None (script_faults (look (names i) c.in_ok-sizes.sizes.own.items None) (items i))))))) c.main_faults.ensures
