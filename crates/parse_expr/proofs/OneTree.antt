@@ -1,5 +1,5 @@
 -- Tokens have at most one tree, and a stretch that is a tree is read with it.
-use Rattle.std.proofs.Common.{ℕ, ◌+◌, ◌≤◌, ◌≡◌, max, List, length, take, drop, Result, Ok, Err, IfOk, IfErr, MatchResult, arith, refl, ap, sym, ◌∙◌, subst}
+use Rattle.std.proofs.Common.{ℕ, ◌+◌, ◌≡◌, max, List, take, drop, Result, Ok, Err, IfOk, IfErr, MatchResult, arith, refl, ap, sym, ◌∙◌, subst}
 use Rattle.std.proofs.Math.Nat.{le-max_left, le-max_right}
 use Rattle.mono_syntax.specs.Ann.{Ann}
 use Rattle.mono_syntax.specs.Expr.{Expr}

@@ -1,5 +1,5 @@
 -- The weight of an expression's tokens with minimal brackets: no derivation of the expression weighs less.
-use Rattle.std.proofs.Common.{ℕ, suc, ◌<◌, ◌≤◌, ◌≡◌, max, Bool, true, false, nat_lt, List, arith, refl, ap, sym, ◌∙◌, subst}
+use Rattle.std.proofs.Common.{ℕ, suc, ◌<◌, ◌≤◌, ◌≡◌, max, Bool, true, false, nat_lt, List, arith, refl, ap, sym, subst}
 use Rattle.std.proofs.Math.Nat.{le-max_left, le-max_right, max-le}
 use Rattle.std.proofs.lemmas.Bool.{lt-ltb, ltb-true, le-ltb}
 use Rattle.mono_syntax.specs.declared.leaf.Op.{Op}
