@@ -1,1 +1,4 @@
+-- Rules.
+
+-- the trees that the program runs so far
 pub mod BuiltTrees

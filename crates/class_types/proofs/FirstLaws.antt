@@ -10,8 +10,8 @@ use Rattle.std.specs.Ordering.{is_eq, nat_cmp}
 use Rattle.std.specs.declared.vec.Vec.{Vec}
 use Rattle.std.proofs.lemmas.Map.Text.{is_eq-slice_cmp}
 use Rattle.std.proofs.lemmas.Slice.Eq.{bytes_eq-Decides}
-use Rattle.class_types.specs.Firsts.{first_in, AreFirsts}
-use Rattle.class_types.specs.Made.{place_from, place_in}
+use Rattle.class_types.specs.computed.Firsts.{first_in, AreFirsts}
+use Rattle.class_types.specs.computed.Made.{place_from, place_in}
 use Rattle.class_types.proofs.Gets.{none_some, some_is}
 
 pub place-below : (ns : List (List ℕ)) (x : List ℕ) (k i : ℕ) → place_from k ns x ≡ Some i → i < length ns + k

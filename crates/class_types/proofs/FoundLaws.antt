@@ -8,7 +8,7 @@ use Rattle.mono_syntax.specs.Ann.{Ann}
 use Rattle.mono_syntax.specs.AnnView.{anns}
 use Rattle.script_rules.specs.FirstFault.{sooner}
 use Rattle.class_types.proofs.MadeTurns.{next}
-use Rattle.class_types.specs.FoundFaults.{first_from, found, wide, wides, part_faults, parts_faults, own_faults, items_faults}
+use Rattle.class_types.specs.computed.FoundFaults.{first_from, found, wide, wides, part_faults, parts_faults, own_faults, items_faults}
 use Rattle.script_rules.specs.SourceParts.{Counted, Part, count_of, item_parts}
 
 pub first-append : (so_far : Option Refusal) (rs ss : List Refusal) → first_from so_far (rs ++ ss) ≡ first_from (first_from so_far rs) ss

@@ -8,7 +8,7 @@ use Rattle.mono_syntax.specs.Ann.{Ann}
 use Rattle.mono_syntax.specs.Ty.{Ty, fun, Tys, no_tys, more_tys}
 use Rattle.mono_tree.specs.Meet.{both}
 use Rattle.script_rules.specs.Writes.{WritesAny, ParamTypes, IsFunctionType}
-use Rattle.class_types.specs.Made.{look, any_by, params_by, function_by, names_of_classes, AreOwnTypes}
+use Rattle.class_types.specs.computed.Made.{look, any_by, params_by, function_by, names_of_classes, AreOwnTypes}
 use Rattle.class_types.proofs.Gets.{some_is}
 use Rattle.class_types.proofs.MadeLaws.{both-parts}
 use Rattle.class_types.proofs.WritesLaws.{made-writes, writes-made}

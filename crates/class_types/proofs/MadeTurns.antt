@@ -11,7 +11,7 @@ use Rattle.mono_syntax.specs.Ty.{Ty, Tys, no_tys, more_tys, Fields, no_fields, m
 use Rattle.mono_syntax.specs.TyView.{tys, fields}
 use Rattle.mono_tree.specs.Meet.{both}
 use Rattle.mono_syntax.specs.declared.tree.Param.{Param}
-use Rattle.class_types.specs.Made.{type_by, types_by, fields_by, any_by, params_by}
+use Rattle.class_types.specs.computed.Made.{type_by, types_by, fields_by, any_by, params_by}
 
 -- one step of a loop over a list
 pub next : {X : Type 0} (xs : List X) (i : ℕ) (x : X) → i < length xs → x ≡ get_or xs i x → drop i xs ≡ x ∷ drop (i + 1) xs

@@ -16,10 +16,10 @@ use Rattle.mono_tree.specs.Meet.{both}
 use Rattle.script_rules.specs.Writes.{put_field, in_order}
 use Rattle.mono_tree.specs.declared.size.Size.{Size}
 use Rattle.mono_tree.proofs.SizeLaws.{capped, joined-capped, grown-capped, capped-same}
-use Rattle.class_types.specs.Made.{place_in, known_at, look, type_by, types_by, fields_by, class_by, any_by, params_by, function_by, object_of}
+use Rattle.class_types.specs.computed.Made.{place_in, known_at, look, type_by, types_by, fields_by, class_by, any_by, params_by, function_by, object_of}
 use Rattle.mono_tree.specs.computed.CountedSizes.{measured, joined, grown}
-use Rattle.class_types.specs.Measured.{size_by, sizes_onto, fields_onto, class_size_by, any_size_by, params_onto, function_size_by}
-use Rattle.class_types.specs.Rounds.{fill, filled, round, unknown}
+use Rattle.class_types.specs.computed.Measured.{size_by, sizes_onto, fields_onto, class_size_by, any_size_by, params_onto, function_size_by}
+use Rattle.class_types.specs.computed.Rounds.{fill, filled, round, unknown}
 use Rattle.mono_tree.specs.Sizes.{nodes_of, nodes_of_all, nodes_of_fields, depth_of, depth_of_all, depth_of_fields}
 
 -- ---- fields in order are as large as before

@@ -4,7 +4,7 @@ use Rattle.std.specs.Prelude.{◌||◌, not, filter, bytes_eq, if◌then◌else�
 use Rattle.std.proofs.lemmas.Slice.Eq.{bytes_eq-Decides}
 use Rattle.mono_syntax.specs.Limits.{most_names}
 use Rattle.mono_syntax.specs.declared.leaf.Word.{Word}
-use Rattle.class_types.specs.NewNames.{known, new_words}
+use Rattle.class_types.specs.computed.NewNames.{known, new_words}
 use Rattle.script_rules.specs.SourceParts.{first_words}
 use Rattle.class_types.proofs.MadeTurns.{next}
 

@@ -4,8 +4,8 @@ use Rattle.std.specs.Prelude.{◌&&◌, ◌||◌, ◌==◌, nat_lt, nat_le, ◌�
 use Rattle.std.proofs.lemmas.Bool.Decides.{nat_tests}
 use Rattle.mono_syntax.specs.declared.refusal.Refusal.{Refusal}
 use Rattle.script_rules.specs.FirstFault.{no_later, rank, sooner}
-pub use Rattle.class_types.specs.FoundFaults.{In}
-use Rattle.class_types.specs.FoundFaults.{first_from}
+pub use Rattle.class_types.specs.computed.FoundFaults.{In}
+use Rattle.class_types.specs.computed.FoundFaults.{first_from}
 use Rattle.class_types.proofs.Gets.{some_is, none_some}
 
 abbrev lex : ℕ → ℕ → ℕ → ℕ → ℕ → ℕ → Bool

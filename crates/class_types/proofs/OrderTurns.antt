@@ -8,7 +8,7 @@ use Rattle.mono_syntax.specs.declared.tree.Field.{Field}
 use Rattle.mono_syntax.specs.Ty.{Ty, Fields, no_fields, more_fields}
 use Rattle.mono_syntax.specs.TyView.{fields}
 use Rattle.script_rules.specs.Writes.{put_field, in_order}
-use Rattle.class_types.specs.Order.{place_for, order_onto}
+use Rattle.class_types.specs.computed.Order.{place_for, order_onto}
 
 pub place-within : (n : List ℕ) (fs : List Field) → place_for n fs ≤ length fs
 place-within n [] = omega arith

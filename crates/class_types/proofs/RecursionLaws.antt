@@ -6,10 +6,10 @@ use Rattle.mono_syntax.specs.declared.leaf.Place.{Place}
 use Rattle.mono_syntax.specs.declared.refusal.Refusal.{Refusal}
 use Rattle.mono_syntax.specs.declared.tree.ClassDef.{ClassDef}
 use Rattle.script_rules.specs.FirstFault.{no_later, IsFirst, IsFaultless}
-use Rattle.class_types.specs.FoundFaults.{found}
-use Rattle.class_types.specs.Leading.{word_fault, recursive_at, IsCovered, AreLeading, LeadsBack, AddsFaults}
-use Rattle.class_types.specs.Made.{place_in, names_of_classes}
-use Rattle.class_types.specs.Ranks.{may_be_first, NeverRise}
+use Rattle.class_types.specs.computed.FoundFaults.{found}
+use Rattle.class_types.specs.computed.Leading.{word_fault, recursive_at, IsCovered, AreLeading, LeadsBack, AddsFaults}
+use Rattle.class_types.specs.computed.Made.{place_in, names_of_classes}
+use Rattle.class_types.specs.computed.Ranks.{may_be_first, NeverRise}
 use Rattle.script_rules.specs.Recursion.{field_names, RecursionFault, IsRecursive}
 use Rattle.class_types.proofs.Gets.{some_is, none_some, get-within}
 use Rattle.class_types.proofs.LeadingLaws.{all_faults, found-all, all-from, all-to, word-from, word-to, class-at, at-class}

@@ -19,10 +19,10 @@ use Rattle.script_rules.specs.Definitions.{classes_of, functions_of, statements_
 use Rattle.script_rules.specs.Scoping.{class_list, function_list}
 use Rattle.mono_tree.specs.declared.size.Size.{Size}
 use Rattle.script_rules.specs.FirstFault.{IsFirst, IsFaultless}
-use Rattle.class_types.specs.FoundFaults.{first_from, type_fault, count_fault, wide, wides, part_faults, parts_faults, name_fault, own_faults, items_faults, script_faults}
-use Rattle.class_types.specs.Made.{look, type_by, class_by, function_by, names_of_classes}
+use Rattle.class_types.specs.computed.FoundFaults.{first_from, type_fault, count_fault, wide, wides, part_faults, parts_faults, name_fault, own_faults, items_faults, script_faults}
+use Rattle.class_types.specs.computed.Made.{look, type_by, class_by, function_by, names_of_classes}
 use Rattle.mono_tree.specs.computed.CountedSizes.{measured, is_too_large}
-use Rattle.class_types.specs.Measured.{size_by, class_size_by, function_size_by, AreMeasured}
+use Rattle.class_types.specs.computed.Measured.{size_by, class_size_by, function_size_by, AreMeasured}
 use Rattle.script_rules.specs.SizeFaults.{SizeFault, large_class, large_function, large_type, many_fields, many_parameters, wide_callable, many_arguments, crowded_function, crowded_main}
 use Rattle.mono_tree.specs.Sizes.{nodes_of, depth_of, IsTooLarge}
 use Rattle.script_rules.specs.SourceParts.{Counted, Part, annotation, arguments, place_of, callables, item_parts, parts_of, block_names}

@@ -6,10 +6,10 @@ use Rattle.std.specs.Option.{option_map}
 use Rattle.mono_syntax.specs.declared.tree.ClassDef.{ClassDef}
 use Rattle.mono_syntax.specs.Ty.{Ty}
 use Rattle.mono_tree.specs.declared.size.Size.{Size}
-use Rattle.class_types.specs.Made.{look, class_by, names_of_classes}
+use Rattle.class_types.specs.computed.Made.{look, class_by, names_of_classes}
 use Rattle.mono_tree.specs.computed.CountedSizes.{measured}
-use Rattle.class_types.specs.Measured.{class_size_by, stray_type, AreMeasured}
-use Rattle.class_types.specs.Rounds.{round, unknown, visit_class, visited}
+use Rattle.class_types.specs.computed.Measured.{class_size_by, stray_type, AreMeasured}
+use Rattle.class_types.specs.computed.Rounds.{round, unknown, visit_class, visited}
 use Rattle.class_types.proofs.MadeLaws.{class-grows}
 use Rattle.class_types.proofs.MeasureLaws.{round-map, unknown-map, filled-map}
 use Rattle.class_types.proofs.RoundLaws.{IsPartial, start-partial, whole-partial, round-done, round-fewer, round-length, unknown-length, visited-partial, visited-length}

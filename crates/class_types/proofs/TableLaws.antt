@@ -15,7 +15,7 @@ use Rattle.script_rules.specs.Writes.{Writes, WritesAny, IsClassType, IsFunction
 use Rattle.class_types.specs.declared.table.ClassTypes.{ClassTypes}
 use Rattle.class_types.specs.Holds.{Holds}
 use Rattle.class_types.specs.Known.{HaveTypes, Begins, StandTypes}
-use Rattle.class_types.specs.Made.{look, type_by, any_by, function_by, class_by, names_of_classes, AreOwnTypes}
+use Rattle.class_types.specs.computed.Made.{look, type_by, any_by, function_by, class_by, names_of_classes, AreOwnTypes}
 use Rattle.class_types.specs.Placed.{StandAt}
 use Rattle.class_types.proofs.Gets.{some_is, none_some}
 use Rattle.class_types.proofs.PlaceLaws.{begins-get, begins-trans}

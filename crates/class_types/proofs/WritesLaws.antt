@@ -13,7 +13,7 @@ use Rattle.mono_syntax.specs.Ty.{Ty, dyn, int, bool, str, nil, fun, obj, Tys, no
 use Rattle.mono_tree.specs.Meet.{both}
 use Rattle.script_rules.specs.Definitions.{class_named}
 use Rattle.script_rules.specs.Writes.{Writes, writes_dyn, writes_int, writes_bool, writes_str, writes_nil, writes_class, writes_fun, WriteAll, write_none, write_more, Declares, declares_none, declares_more, IsClassType, WritesAny, ParamTypes, IsFunctionType, in_order}
-use Rattle.class_types.specs.Made.{look, type_by, types_by, fields_by, class_by, object_of, names_of_classes, AreOwnTypes}
+use Rattle.class_types.specs.computed.Made.{look, type_by, types_by, fields_by, class_by, object_of, names_of_classes, AreOwnTypes}
 use Rattle.class_types.proofs.Gets.{some_is, none_some, by_option}
 use Rattle.class_types.proofs.MadeLaws.{both-parts, map-parts, look-class, look-stray, order-size}
 

@@ -3,7 +3,7 @@ use Rattle.std.specs.Prelude.{◌≡◌}
 use Rattle.script_rules.specs.Scoping.{class_list}
 use Rattle.class_types.specs.declared.table.ClassTypes.{ClassTypes}
 use Rattle.class_types.specs.Known.{StandTypes, Begins}
-use Rattle.class_types.specs.Made.{AreOwnTypes, names_of_classes}
+use Rattle.class_types.specs.computed.Made.{AreOwnTypes, names_of_classes}
 
 -- the types of the script's classes are known and stand among its types
 pub record Holds (k : ClassTypes) : Type 0 where

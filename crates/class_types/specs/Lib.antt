@@ -1,12 +1,12 @@
+-- Rules.
+
+-- the types of a script's classes, and the types that are written so far
 pub mod Known
-pub mod Made
-pub mod Firsts
+-- types by their positions in a list
 pub mod Placed
-pub mod Rounds
-pub mod Order
+-- what a value of `ClassTypes` keeps
 pub mod Holds
-pub mod NewNames
-pub mod FoundFaults
-pub mod Leading
-pub mod Measured
-pub mod Ranks
+-- Computed: what code computes.
+
+-- the definitions that the proofs tie to the rules
+pub mod computed

@@ -1,8 +1,8 @@
 ghost use Rattle.std.specs.Prelude.{◌≡◌, ◌++◌, [], map, length, slice_get, IfOk};
 ghost use Rattle.mono_syntax.specs.Limits.{most_names};
 ghost use Rattle.mono_syntax.specs.StmtView.{block, branches, else_block};
-ghost use Rattle.class_types.specs.FoundFaults.{first_from, name_fault};
-ghost use Rattle.class_types.specs.NewNames.{known, new_words};
+ghost use Rattle.class_types.specs.computed.FoundFaults.{first_from, name_fault};
+ghost use Rattle.class_types.specs.computed.NewNames.{known, new_words};
 ghost use Rattle.script_rules.specs.SourceParts.{bound, block_bound, branch_bound, else_bound, body_bound, block_names};
 ghost use Rattle.script_rules.specs.Definitions.{statements_of};
 

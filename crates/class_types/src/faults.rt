@@ -1,7 +1,7 @@
 ghost use Rattle.std.specs.Prelude.{◌≡◌, ◌+◌, length, None};
 ghost use Rattle.mono_syntax.specs.AnnView.{anns};
-ghost use Rattle.class_types.specs.FoundFaults.{first_from, found, type_fault, count_fault, wide, part_faults};
-ghost use Rattle.class_types.specs.Made.{look};
+ghost use Rattle.class_types.specs.computed.FoundFaults.{first_from, found, type_fault, count_fault, wide, part_faults};
+ghost use Rattle.class_types.specs.computed.Made.{look};
 ghost use Rattle.script_rules.specs.SourceParts.{annotation, arguments, callables, callables_all};
 
 use crate::first::sooner;

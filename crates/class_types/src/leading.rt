@@ -1,8 +1,8 @@
 ghost use Rattle.std.specs.Prelude.{◌≡◌, ◌≤◌, ◌↔◌, IsTrue, length, map, replicate, slice_get, false, Some, None, IfOk};
 ghost use Rattle.mono_syntax.specs.AnnView.{anns};
-ghost use Rattle.class_types.specs.FoundFaults.{first_from, found};
-ghost use Rattle.class_types.specs.Leading.{is_marked, word_fault, leads_now, mark, mark_round, visit_mark, visit_marks, unmarked, AreLeading};
-ghost use Rattle.class_types.specs.Made.{names_of_classes, place_in};
+ghost use Rattle.class_types.specs.computed.FoundFaults.{first_from, found};
+ghost use Rattle.class_types.specs.computed.Leading.{is_marked, word_fault, leads_now, mark, mark_round, visit_mark, visit_marks, unmarked, AreLeading};
+ghost use Rattle.class_types.specs.computed.Made.{names_of_classes, place_in};
 ghost use Rattle.script_rules.specs.Recursion.{names_in, names_in_all, field_names};
 
 use crate::first::sooner;

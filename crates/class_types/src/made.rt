@@ -2,8 +2,8 @@ ghost use Rattle.std.specs.Prelude.{◌≡◌, ◌≤◌, length, IfOk, MatchOpt
 ghost use Rattle.std.specs.Option.{option_map, option_copied};
 ghost use Rattle.mono_syntax.specs.AnnView.{anns};
 ghost use Rattle.mono_syntax.specs.TyView.{tys, fields, ty_of};
-ghost use Rattle.class_types.specs.Made.{look, type_by, types_by, fields_by, class_by, any_by, params_by, function_by};
-ghost use Rattle.class_types.specs.Order.{place_for};
+ghost use Rattle.class_types.specs.computed.Made.{look, type_by, types_by, fields_by, class_by, any_by, params_by, function_by};
+ghost use Rattle.class_types.specs.computed.Order.{place_for};
 ghost use Rattle.script_rules.specs.Writes.{put_field, in_order};
 
 use crate::names::ClassNames;

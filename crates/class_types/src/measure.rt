@@ -1,8 +1,8 @@
 ghost use Rattle.std.specs.Prelude.{◌≡◌, ◌≤◌, length};
 ghost use Rattle.mono_syntax.specs.AnnView.{anns};
-ghost use Rattle.class_types.specs.Made.{look};
+ghost use Rattle.class_types.specs.computed.Made.{look};
 ghost use Rattle.mono_tree.specs.computed.CountedSizes.{nothing};
-ghost use Rattle.class_types.specs.Measured.{size_by, sizes_onto, fields_onto, class_size_by, any_size_by, params_onto, function_size_by};
+ghost use Rattle.class_types.specs.computed.Measured.{size_by, sizes_onto, fields_onto, class_size_by, any_size_by, params_onto, function_size_by};
 
 use crate::names::ClassNames;
 use mono_syntax::{Ann, AnnForm, ClassDef, FieldDef, FuncDef, Name, Param};

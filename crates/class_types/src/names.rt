@@ -1,7 +1,7 @@
 ghost use Rattle.std.specs.Prelude.{◌≡◌, ◌<◌, ℕ, List, length, map, bytes_eq, if◌then◌else◌, Some, None, IfOk, IfSome};
 ghost use Rattle.std.specs.Option.{option_or};
-ghost use Rattle.class_types.specs.Firsts.{first_in};
-ghost use Rattle.class_types.specs.Made.{place_in, names_of_classes};
+ghost use Rattle.class_types.specs.computed.Firsts.{first_in};
+ghost use Rattle.class_types.specs.computed.Made.{place_in, names_of_classes};
 
 use mono_syntax::{ClassDef, Name};
 use sqlite_items::Items;
@@ -19,7 +19,7 @@ pub struct ClassNames {
 
 impl Model for ClassNames {
     ghost use Rattle.std.specs.Prelude.{List, ℕ};
-    ghost use Rattle.class_types.specs.Firsts.{AreFirsts};
+    ghost use Rattle.class_types.specs.computed.Firsts.{AreFirsts};
 
     ghost Value = { List (List ℕ) };
 

@@ -1,7 +1,7 @@
 ghost use Rattle.std.specs.Prelude.{◌≡◌, true, false, map, IfOk};
-ghost use Rattle.class_types.specs.Leading.{recursive_at};
-ghost use Rattle.class_types.specs.Made.{names_of_classes};
-ghost use Rattle.class_types.specs.Ranks.{rank_of, rises, is_before, may_be_first, NeverRise};
+ghost use Rattle.class_types.specs.computed.Leading.{recursive_at};
+ghost use Rattle.class_types.specs.computed.Made.{names_of_classes};
+ghost use Rattle.class_types.specs.computed.Ranks.{rank_of, rises, is_before, may_be_first, NeverRise};
 
 use crate::first::no_later;
 use crate::graph::{Graph, words_of};

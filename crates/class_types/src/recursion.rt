@@ -1,9 +1,9 @@
 ghost use Rattle.std.specs.Prelude.{◌≡◌, map, slice_get, Some, IfOk, MatchOption};
 ghost use Rattle.script_rules.specs.Scoping.{class_list};
 ghost use Rattle.script_rules.specs.FirstFault.{IsFirst, IsFaultless};
-ghost use Rattle.class_types.specs.Leading.{AddsFaults};
-ghost use Rattle.class_types.specs.Made.{names_of_classes};
-ghost use Rattle.class_types.specs.Ranks.{NeverRise};
+ghost use Rattle.class_types.specs.computed.Leading.{AddsFaults};
+ghost use Rattle.class_types.specs.computed.Made.{names_of_classes};
+ghost use Rattle.class_types.specs.computed.Ranks.{NeverRise};
 ghost use Rattle.script_rules.specs.Recursion.{IsRecursive};
 
 use crate::graph::{Graph, words_of};

@@ -1,6 +1,6 @@
 ghost use Rattle.std.specs.Prelude.{◌≡◌, ◌≤◌, ◌∷◌, ◌++◌, [], length, map, replicate, None, IfOk};
-ghost use Rattle.class_types.specs.Made.{look, class_by, names_of_classes, AreSettled};
-ghost use Rattle.class_types.specs.Rounds.{filled, round, unknown};
+ghost use Rattle.class_types.specs.computed.Made.{look, class_by, names_of_classes, AreSettled};
+ghost use Rattle.class_types.specs.computed.Rounds.{filled, round, unknown};
 ghost use Rattle.script_rules.specs.Definitions.{classes_of};
 
 use crate::made::class_made;

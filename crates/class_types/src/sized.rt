@@ -1,9 +1,9 @@
 ghost use Rattle.std.specs.Prelude.{◌≡◌, slice_get, length, map, replicate, Some, None, IfOk};
 ghost use Rattle.std.specs.Option.{option_map};
-ghost use Rattle.class_types.specs.Made.{names_of_classes};
+ghost use Rattle.class_types.specs.computed.Made.{names_of_classes};
 ghost use Rattle.mono_tree.specs.computed.CountedSizes.{measured};
-ghost use Rattle.class_types.specs.Measured.{stray_type, class_size_by, AreMeasured};
-ghost use Rattle.class_types.specs.Rounds.{filled, round, visit_class, visited};
+ghost use Rattle.class_types.specs.computed.Measured.{stray_type, class_size_by, AreMeasured};
+ghost use Rattle.class_types.specs.computed.Rounds.{filled, round, visit_class, visited};
 
 use crate::measure::size_of_class;
 use crate::names::ClassNames;

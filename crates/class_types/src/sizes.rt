@@ -2,9 +2,9 @@ ghost use Rattle.std.specs.Prelude.{◌≡◌, [], None, IfOk, MatchOption};
 ghost use Rattle.mono_syntax.specs.declared.tree.Item.TheVariants as item;
 ghost use Rattle.script_rules.specs.Definitions.{classes_of};
 ghost use Rattle.script_rules.specs.FirstFault.{IsFirst, IsFaultless};
-ghost use Rattle.class_types.specs.FoundFaults.{first_from, found, part_faults, own_faults, items_faults, parts_faults};
-ghost use Rattle.class_types.specs.Made.{look, names_of_classes};
-ghost use Rattle.class_types.specs.Measured.{AreMeasured};
+ghost use Rattle.class_types.specs.computed.FoundFaults.{first_from, found, part_faults, own_faults, items_faults, parts_faults};
+ghost use Rattle.class_types.specs.computed.Made.{look, names_of_classes};
+ghost use Rattle.class_types.specs.computed.Measured.{AreMeasured};
 ghost use Rattle.script_rules.specs.SizeFaults.{SizeFault};
 ghost use Rattle.script_rules.specs.SourceParts.{field_parts, param_parts, item_parts, any_ann, body_parts};
 

@@ -4,7 +4,7 @@ ghost use Rattle.script_rules.specs.Scoping.{class_list, StandsAt};
 ghost use Rattle.script_rules.specs.Writes.{Writes, WritesAny, IsFunctionType};
 ghost use Rattle.class_types.specs.Known.{HaveTypes};
 ghost use Rattle.script_rules.specs.Definitions.{classes_of};
-ghost use Rattle.class_types.specs.Made.{names_of_classes, AreOwnTypes};
+ghost use Rattle.class_types.specs.computed.Made.{names_of_classes, AreOwnTypes};
 ghost use Rattle.class_types.specs.Holds.{Holds, Extends};
 
 use crate::made::{function_made, type_any, type_made};

@@ -3,8 +3,8 @@ ghost use Rattle.mono_syntax.specs.Limits.{most_arguments};
 ghost use Rattle.mono_syntax.specs.declared.refusal.Reason.TheVariants.{TooManyArguments};
 ghost use Rattle.mono_syntax.specs.ExprView.{exprs};
 ghost use Rattle.mono_syntax.specs.StmtView.{block, branches, else_block};
-ghost use Rattle.class_types.specs.FoundFaults.{first_from, found, count_fault, part_faults};
-ghost use Rattle.class_types.specs.Made.{look};
+ghost use Rattle.class_types.specs.computed.FoundFaults.{first_from, found, count_fault, part_faults};
+ghost use Rattle.class_types.specs.computed.Made.{look};
 ghost use Rattle.script_rules.specs.SourceParts.{expr_parts, exprs_parts, any_ann, any_expr, stmt_parts, block_parts, branch_parts, else_parts};
 
 use crate::faults::{Sizes, ann_faults, count_fault};

@@ -2,7 +2,7 @@
 use Rattle.std.proofs.Common.{◌≡◌, true, refl}
 use Rattle.mono_syntax.specs.Stmt.{Stmt, Block, no_stmts, more_stmts}
 use Rattle.static_types.specs.BodyEnds.{may_end, statement_may_end}
-use Rattle.consistency.specs.Scripted.{ends_behind}
+use Rattle.consistency.specs.computed.Scripted.{ends_behind}
 
 ends_later : (s : Stmt) (rest : Block) → ends_behind (statement_may_end s) rest ≡ may_end (more_stmts s rest)
 ends_later s no_stmts = refl

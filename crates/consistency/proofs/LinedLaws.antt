@@ -31,10 +31,10 @@ use Rattle.known_names.specs.IsKnown.{IsKnown, names_in}
 use Rattle.consistency.specs.declared.lines.State.{State}
 use Rattle.consistency.specs.declared.parts.Part.{Part}
 use Rattle.consistency.specs.declared.parts.Parts.{Parts}
-use Rattle.consistency.specs.Checked.{no_parts, with_part, all_typed, typed}
-use Rattle.consistency.specs.Lined.{with_thread, lined, used_line, any_line, first_typed, two_typed, row_typed, return_used, assign_used, write_used, start_used, condition, line_typed, block_typed, branches_typed, else_typed}
-use Rattle.consistency.specs.Ruled.{types_of, first_apart, first_member, first_rule}
-use Rattle.consistency.specs.Steps.{and_then}
+use Rattle.consistency.specs.computed.Checked.{no_parts, with_part, all_typed, typed}
+use Rattle.consistency.specs.computed.Lined.{with_thread, lined, used_line, any_line, first_typed, two_typed, row_typed, return_used, assign_used, write_used, start_used, condition, line_typed, block_typed, branches_typed, else_typed}
+use Rattle.consistency.specs.computed.Ruled.{types_of, first_apart, first_member, first_rule}
+use Rattle.consistency.specs.computed.Steps.{and_then}
 use Rattle.static_types.proofs.TypeLaws.{all_row, part_row}
 use Rattle.static_types.proofs.UseLaws.{use_row}
 use Rattle.consistency.proofs.CountLaws.{types_count_of, callee_count}

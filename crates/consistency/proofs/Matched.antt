@@ -6,13 +6,13 @@ use Rattle.mono_syntax.specs.declared.refusal.LoadFault.TheVariants.{Refused, Me
 use Rattle.mono_syntax.specs.Expr.{Expr, Exprs}
 use Rattle.known_names.specs.declared.known.Known.{Known}
 use Rattle.known_names.specs.declared.known.Local.{Local}
-use Rattle.known_names.specs.Gives.{Gives}
+use Rattle.known_names.specs.computed.Gives.{Gives}
 use Rattle.mono_syntax.specs.declared.refusal.Refusal.{Refusal}
 use Rattle.consistency.specs.declared.parts.Parts.{Parts}
 use Rattle.consistency.specs.declared.trace.Trace.{Trace}
-use Rattle.consistency.specs.Checked.{no_parts, with_part, ended, parts_typed, all_typed}
-use Rattle.consistency.specs.Ruled.{called_class}
-use Rattle.consistency.specs.Steps.{and_then}
+use Rattle.consistency.specs.computed.Checked.{no_parts, with_part, ended, parts_typed, all_typed}
+use Rattle.consistency.specs.computed.Ruled.{called_class}
+use Rattle.consistency.specs.computed.Steps.{and_then}
 
 module _ (ks : Known) (l : Local) (b : Trace) (r : Result Parts LoadFault) where
   abbrev Two : Expr → Expr → Result Parts Refusal

@@ -3,7 +3,7 @@ use Rattle.std.proofs.Common.{◌≡◌, List, [], ◌∷◌, length, refl, arit
 use Rattle.std.specs.Prelude.{None}
 use Rattle.mono_syntax.specs.Ty.{Ty}
 use Rattle.consistency.specs.declared.parts.Part.{Part}
-use Rattle.consistency.specs.Ruled.{first_apart}
+use Rattle.consistency.specs.computed.Ruled.{first_apart}
 
 pub no_parts_left : (xs : List Part) (ts : List Ty) → length xs ≡ 0 → first_apart xs ts ≡ None
 no_parts_left [] ts h = refl

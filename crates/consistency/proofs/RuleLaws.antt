@@ -28,13 +28,13 @@ use Rattle.static_types.specs.Rules.{takes, at, member_of, CalleeRule, NewRule, 
 use Rattle.known_names.specs.declared.known.Known.{Known}
 use Rattle.known_names.specs.declared.known.KnownClass.{KnownClass}
 use Rattle.known_names.specs.declared.known.Local.{Local}
-use Rattle.known_names.specs.Annotations.{written}
+use Rattle.known_names.specs.computed.Annotations.{written}
 use Rattle.known_names.specs.IsKnown.{IsKnown, IsKnownClass, names_in}
-use Rattle.known_names.specs.TypeList.{is_dyn}
+use Rattle.known_names.specs.computed.TypeList.{is_dyn}
 use Rattle.known_names.proofs.AnnotationLaws.{found_writes, written_found}
 use Rattle.known_names.proofs.Classes.{SameClass, same_class, SameFunction, same_function}
 use Rattle.consistency.specs.declared.parts.Part.{Part}
-use Rattle.consistency.specs.Ruled.{types_of, name_rule, join_rule, is_sum, are_dyn, operator_rule, read_rule, first_member, cast_rule, called_class, new_rule, callee_rule, first_rule, call_rule, ruled}
+use Rattle.consistency.specs.computed.Ruled.{types_of, name_rule, join_rule, is_sum, are_dyn, operator_rule, read_rule, first_member, cast_rule, called_class, new_rule, callee_rule, first_rule, call_rule, ruled}
 
 -- the rule, or the fault where there is none
 abbrev pub IsRuled : Names → Expr → List Part → Result Rule Refusal → Type 0

@@ -29,17 +29,17 @@ use Rattle.static_types.specs.Typing.{AllStand, IsTyping, IsFault, Refuses}
 use Rattle.static_types.proofs.ScriptLaws.{script_or_fault, script_fault_once}
 use Rattle.known_names.specs.declared.known.Known.{Known}
 use Rattle.known_names.specs.declared.known.Local.{Local}
-use Rattle.known_names.specs.Gathered.{known_in, function_names, main_names}
-use Rattle.known_names.specs.Gives.{Gives}
+use Rattle.known_names.specs.computed.Gathered.{known_in, function_names, main_names}
+use Rattle.known_names.specs.computed.Gives.{Gives}
 use Rattle.known_names.specs.IsKnown.{IsKnown, names_in, IsFunctionLocal}
-use Rattle.known_names.specs.TypeList.{consistent}
+use Rattle.known_names.specs.computed.TypeList.{consistent}
 use Rattle.known_names.proofs.KnownLaws.{known_found, function_local, main_local}
 use Rattle.consistency.specs.declared.lines.State.{State}
 use Rattle.consistency.specs.declared.script.Done.{Done}
 use Rattle.consistency.specs.declared.trace.Trace.{Trace}
-use Rattle.consistency.specs.Lined.{line_typed, block_typed}
-use Rattle.consistency.specs.Scripted.{end_at, function_end, body_typed, items_typed, begun, typed_script, checked}
-use Rattle.consistency.specs.Steps.{and_then}
+use Rattle.consistency.specs.computed.Lined.{line_typed, block_typed}
+use Rattle.consistency.specs.computed.Scripted.{end_at, function_end, body_typed, items_typed, begun, typed_script, checked}
+use Rattle.consistency.specs.computed.Steps.{and_then}
 use Rattle.consistency.proofs.LinedLaws.{Reached, IsLined, BlockOutcome, line_so, block_so}
 use Rattle.consistency.proofs.TraceLaws.{Traced, traced_none, traced_on}
 use Rattle.consistency.proofs.UseLaws.{consistent_is, apart_is}

@@ -3,11 +3,11 @@ use Rattle.std.proofs.Common.{◌≡◌, List, [], ◌∷◌, ◌++◌, refl, sy
 use Rattle.std.proofs.lemmas.List.{append-nil}
 use Rattle.mono_syntax.specs.declared.leaf.TyAt.{TyAt}
 use Rattle.mono_syntax.specs.Ty.{Ty}
-use Rattle.known_names.specs.TypeList.{with_type}
+use Rattle.known_names.specs.computed.TypeList.{with_type}
 use Rattle.known_names.proofs.TypeListLaws.{Keeps, Grows, stays, grows_on, is_placed}
 use Rattle.consistency.specs.declared.trace.Trace.{Trace}
 use Rattle.static_types.specs.Typing.{AllStand}
-use Rattle.consistency.specs.Traces.{with_expr}
+use Rattle.consistency.specs.computed.Traces.{with_expr}
 
 stand_kept : (ts us : List Ty) (as_ : List TyAt) (vs : List Ty) → Keeps ts us → AllStand ts as_ vs → AllStand us as_ vs
 stand_kept ts us [] [] k h = tt

@@ -26,10 +26,10 @@ use Rattle.consistency.specs.declared.parts.Part.{Part}
 use Rattle.consistency.specs.declared.parts.Parts.{Parts}
 use Rattle.consistency.specs.declared.parts.Whole.{Whole}
 use Rattle.consistency.specs.declared.trace.Trace.{Trace}
-use Rattle.consistency.specs.Ruled.{types_of, called_class, first_apart, ruled}
-use Rattle.consistency.specs.Checked.{no_parts, with_part, finished, ended, parts_typed, all_typed, typed}
-use Rattle.consistency.specs.Steps.{and_then}
-use Rattle.consistency.specs.Traces.{with_expr}
+use Rattle.consistency.specs.computed.Ruled.{types_of, called_class, first_apart, ruled}
+use Rattle.consistency.specs.computed.Checked.{no_parts, with_part, finished, ended, parts_typed, all_typed, typed}
+use Rattle.consistency.specs.computed.Steps.{and_then}
+use Rattle.consistency.specs.computed.Traces.{with_expr}
 use Rattle.consistency.proofs.CountLaws.{types_count_of, asks_count}
 use Rattle.consistency.proofs.RuleLaws.{IsRuled, HasParts, same_called, ruled_so}
 use Rattle.consistency.proofs.TraceLaws.{Traced, traced_none, traced_on, traced_push}

@@ -12,9 +12,9 @@ use Rattle.static_types.specs.Faults.{UseFault, here, later}
 use Rattle.static_types.specs.Rules.{at}
 use Rattle.script_rules.specs.SourcePlaces.{place_of}
 use Rattle.static_types.specs.Types.{AllConsistent}
-use Rattle.known_names.specs.TypeList.{consistent}
+use Rattle.known_names.specs.computed.TypeList.{consistent}
 use Rattle.consistency.specs.declared.parts.Part.{Part}
-use Rattle.consistency.specs.Ruled.{types_of, first_apart}
+use Rattle.consistency.specs.computed.Ruled.{types_of, first_apart}
 
 -- the parts stand where these expressions do
 abbrev pub AreAt : List Expr → List Part → Type 0

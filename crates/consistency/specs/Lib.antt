@@ -1,6 +1,4 @@
-pub mod Steps
-pub mod Traces
-pub mod Ruled
-pub mod Checked
-pub mod Lined
-pub mod Scripted
+-- Computed: what code computes.
+
+-- the definitions that the proofs tie to the rules
+pub mod computed

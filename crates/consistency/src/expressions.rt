@@ -1,9 +1,9 @@
 ghost use Rattle.std.specs.Prelude.{Ok, is_some, if◌then◌else◌};
 ghost use Rattle.mono_syntax.specs.ExprView.{exprs};
-ghost use Rattle.known_names.specs.Gives.{Gives};
-ghost use Rattle.consistency.specs.Checked.{no_parts, with_part, whole, ended, parts_typed, all_typed, typed};
-ghost use Rattle.consistency.specs.Ruled.{called_class};
-ghost use Rattle.consistency.specs.Steps.{and_then};
+ghost use Rattle.known_names.specs.computed.Gives.{Gives};
+ghost use Rattle.consistency.specs.computed.Checked.{no_parts, with_part, whole, ended, parts_typed, all_typed, typed};
+ghost use Rattle.consistency.specs.computed.Ruled.{called_class};
+ghost use Rattle.consistency.specs.computed.Steps.{and_then};
 
 use crate::parts::{Part, Parts, Whole, finished, first_apart, no_parts};
 use crate::places::place_of;

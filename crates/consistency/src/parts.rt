@@ -1,7 +1,7 @@
 ghost use Rattle.std.specs.Prelude.{◌≡◌, [], IfOk, Ok};
-ghost use Rattle.known_names.specs.Gives.{Gives};
-ghost use Rattle.consistency.specs.Checked.{no_parts, finished};
-ghost use Rattle.consistency.specs.Ruled.{are_dyn, first_apart};
+ghost use Rattle.known_names.specs.computed.Gives.{Gives};
+ghost use Rattle.consistency.specs.computed.Checked.{no_parts, finished};
+ghost use Rattle.consistency.specs.computed.Ruled.{are_dyn, first_apart};
 
 use crate::trace::{Trace, with_expr};
 use known_names::{is_consistent, is_dyn};

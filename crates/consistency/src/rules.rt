@@ -6,8 +6,8 @@ ghost use Rattle.mono_syntax.specs.TyView.{ty_of, tys, tys_list};
 ghost use Rattle.static_types.specs.Members.{all_dyn, member_type};
 ghost use Rattle.static_types.specs.Operators.{arithmetic, comparison, equality, sort_of, operand_types, operator_type};
 ghost use Rattle.static_types.specs.Rules.{takes, at};
-ghost use Rattle.known_names.specs.Gives.{Gives};
-ghost use Rattle.consistency.specs.Ruled.{name_rule, join_rule, is_sum, operator_rule, read_rule, first_member, cast_rule, called_class, new_rule, callee_rule, first_rule, call_rule, ruled};
+ghost use Rattle.known_names.specs.computed.Gives.{Gives};
+ghost use Rattle.consistency.specs.computed.Ruled.{name_rule, join_rule, is_sum, operator_rule, read_rule, first_member, cast_rule, called_class, new_rule, callee_rule, first_rule, call_rule, ruled};
 
 use crate::parts::{Part, are_dyn};
 use known_names::{Known, KnownClass, Local, field_of, known_class, new_type, type_of, written};

@@ -6,11 +6,11 @@ ghost use Rattle.mono_syntax.specs.declared.tree.Item.TheVariants as item;
 ghost use Rattle.script_rules.specs.Scoping.{IsScope};
 ghost use Rattle.static_types.specs.Typing.{IsTyping, IsFault, Refuses};
 ghost use Rattle.static_types.specs.Scripts.{IsTypeFault};
-ghost use Rattle.known_names.specs.Gives.{Gives};
-ghost use Rattle.known_names.specs.Gathered.{known_in};
-ghost use Rattle.consistency.specs.Lined.{line_typed};
-ghost use Rattle.consistency.specs.Steps.{and_then};
-ghost use Rattle.consistency.specs.Scripted.{end_at, function_end, body_typed, item_typed, items_typed, no_exprs_yet, begun, typed_script, checked};
+ghost use Rattle.known_names.specs.computed.Gives.{Gives};
+ghost use Rattle.known_names.specs.computed.Gathered.{known_in};
+ghost use Rattle.consistency.specs.computed.Lined.{line_typed};
+ghost use Rattle.consistency.specs.computed.Steps.{and_then};
+ghost use Rattle.consistency.specs.computed.Scripted.{end_at, function_end, body_typed, item_typed, items_typed, no_exprs_yet, begun, typed_script, checked};
 
 use crate::endings::may_end;
 use crate::lines::{State, block_typed, line_typed, shared_type};

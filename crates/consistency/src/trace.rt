@@ -1,6 +1,6 @@
 ghost use Rattle.std.specs.Prelude.{Ok};
-ghost use Rattle.known_names.specs.Gives.{Gives};
-ghost use Rattle.consistency.specs.Traces.{with_expr};
+ghost use Rattle.known_names.specs.computed.Gives.{Gives};
+ghost use Rattle.consistency.specs.computed.Traces.{with_expr};
 
 use known_names::with_type;
 use mono_list::Shared;

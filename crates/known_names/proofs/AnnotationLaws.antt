@@ -19,9 +19,9 @@ use Rattle.mono_tree.specs.TypedPrograms.{type_of_name}
 use Rattle.script_rules.specs.Definitions.{class_named}
 use Rattle.script_rules.specs.Writes.{in_order, Writes, writes_dyn, writes_int, writes_bool, writes_str, writes_nil, writes_class, writes_fun, WriteAll, write_none, write_more, Declares, declares_none, declares_more}
 use Rattle.known_names.specs.declared.known.Known.{Known}
-use Rattle.known_names.specs.Annotations.{written, written_form, written_all, known_fields}
+use Rattle.known_names.specs.computed.Annotations.{written, written_form, written_all, known_fields}
 use Rattle.known_names.specs.IsKnown.{TypesKnown, IsKnown}
-use Rattle.known_names.specs.TypeList.{type_or_dyn}
+use Rattle.known_names.specs.computed.TypeList.{type_or_dyn}
 use Rattle.known_names.proofs.Classes.{SameType, same_type}
 use Rattle.known_names.proofs.Steps.{then_some, map_some}
 use Rattle.known_names.proofs.WriteLaws.{declares_once}

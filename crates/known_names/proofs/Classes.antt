@@ -12,7 +12,7 @@ use Rattle.script_rules.specs.Writes.{IsClassType, IsFunctionType}
 use Rattle.known_names.specs.declared.known.Known.{Known}
 use Rattle.known_names.specs.declared.known.KnownClass.{KnownClass}
 use Rattle.known_names.specs.IsKnown.{TypesKnown, IsKnownClass, ClassesKnown, FunctionsKnown, IsKnown}
-use Rattle.known_names.specs.KnownNames.{known_class}
+use Rattle.known_names.specs.computed.KnownNames.{known_class}
 
 -- both are there and tell the same, or neither is
 abbrev pub SameType : List ClassDef → Option ClassDef → Option Ty → Type 0

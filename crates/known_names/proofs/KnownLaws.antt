@@ -21,10 +21,10 @@ use Rattle.script_rules.specs.Scoping.{StandsAt, ClassesStand, FunctionsStand, N
 use Rattle.script_rules.specs.Writes.{in_order, Declares, WritesAny, IsClassType, IsFunctionType}
 use Rattle.static_types.specs.Scripts.{AreNames}
 use Rattle.known_names.specs.declared.known.KnownClass.{KnownClass}
-use Rattle.known_names.specs.Annotations.{known_fields}
-use Rattle.known_names.specs.Gathered.{next_type, class_types, function_types, classes_from, known_in, values_of, block_values, result_type, declared_result, local_at}
+use Rattle.known_names.specs.computed.Annotations.{known_fields}
+use Rattle.known_names.specs.computed.Gathered.{next_type, class_types, function_types, classes_from, known_in, values_of, block_values, result_type, declared_result, local_at}
 use Rattle.known_names.specs.IsKnown.{TypesKnown, IsKnownClass, ClassesKnown, FunctionsKnown, IsKnown, IsFunctionLocal, IsMainLocal}
-use Rattle.known_names.specs.TypeList.{type_or_dyn, type_at}
+use Rattle.known_names.specs.computed.TypeList.{type_or_dyn, type_at}
 use Rattle.known_names.proofs.AnnotationLaws.{declared_fields, field_names}
 
 -- ---- positions

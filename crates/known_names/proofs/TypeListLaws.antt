@@ -9,7 +9,7 @@ use Rattle.mono_tree.specs.Precision.{precise}
 use Rattle.mono_tree.proofs.TypeLaws.{precise_refl, precise_antisym}
 use Rattle.mono_tree.specs.ClosedList.{AreDistinct}
 use Rattle.known_names.specs.declared.types.Placed.{Placed}
-use Rattle.known_names.specs.TypeList.{same, position_from, placed, with_type}
+use Rattle.known_names.specs.computed.TypeList.{same, position_from, placed, with_type}
 
 -- ---- lists that grow
 

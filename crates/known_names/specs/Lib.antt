@@ -1,6 +1,8 @@
-pub mod TypeList
-pub mod Annotations
-pub mod KnownNames
+-- Rules.
+
+-- what the code knows of names is what the rules say of them
 pub mod IsKnown
-pub mod Gathered
-pub mod Gives
+-- Computed: what code computes.
+
+-- the definitions that the proofs tie to the rules
+pub mod computed

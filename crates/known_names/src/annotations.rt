@@ -2,7 +2,7 @@ ghost use Rattle.std.specs.Prelude.{◌≡◌, [], IfOk};
 ghost use Rattle.std.specs.Option.{option_copied};
 ghost use Rattle.mono_syntax.specs.AnnView.{anns};
 ghost use Rattle.mono_tree.specs.TypedPrograms.{type_of_name};
-ghost use Rattle.known_names.specs.Annotations.{written, written_all, known_field, known_fields};
+ghost use Rattle.known_names.specs.computed.Annotations.{written, written_all, known_field, known_fields};
 
 use crate::types::{new_type, type_or_dyn};
 use mono_list::Shared;

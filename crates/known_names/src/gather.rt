@@ -1,7 +1,7 @@
 ghost use Rattle.std.specs.Prelude.{◌≡◌, [], IfOk, Some, slice_get};
 ghost use Rattle.mono_syntax.specs.declared.tree.FuncDef.{FuncDef};
 ghost use Rattle.script_rules.specs.Scoping.{IsScope, class_list, function_list};
-ghost use Rattle.known_names.specs.Gathered.{with_name, with_class_type, class_types, with_function_type, function_types, with_class, classes_from, known_with, named, values_of, block_values, result_type, declared_result, local_at, known_in, function_names, main_names};
+ghost use Rattle.known_names.specs.computed.Gathered.{with_name, with_class_type, class_types, with_function_type, function_types, with_class, classes_from, known_with, named, values_of, block_values, result_type, declared_result, local_at, known_in, function_names, main_names};
 ghost use Rattle.known_names.specs.IsKnown.{IsKnown, IsFunctionLocal, IsMainLocal};
 
 use crate::annotations::known_fields;

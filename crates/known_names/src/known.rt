@@ -2,7 +2,7 @@ ghost use Rattle.std.specs.Prelude.{◌≡◌};
 ghost use Rattle.std.specs.Option.{option_copied};
 ghost use Rattle.mono_syntax.specs.TyView.{fields};
 ghost use Rattle.static_types.specs.Members.{field_type};
-ghost use Rattle.known_names.specs.KnownNames.{known_class};
+ghost use Rattle.known_names.specs.computed.KnownNames.{known_class};
 
 use mono_list::Shared;
 use mono_syntax::{Field, Name, NamedType, Ty};

@@ -4,8 +4,8 @@ ghost use Rattle.mono_syntax.specs.TyView.{ty_of};
 ghost use Rattle.mono_tree.specs.Meet.{meet_of};
 ghost use Rattle.mono_tree.specs.Precision.{precise};
 ghost use Rattle.mono_tree.specs.Static.{is_static};
-ghost use Rattle.known_names.specs.Gives.{Gives};
-ghost use Rattle.known_names.specs.TypeList.{type_or_dyn, type_at, is_dyn, same, consistent, position_from, with_type};
+ghost use Rattle.known_names.specs.computed.Gives.{Gives};
+ghost use Rattle.known_names.specs.computed.TypeList.{type_or_dyn, type_at, is_dyn, same, consistent, position_from, with_type};
 
 use mono_list::Shared;
 use mono_syntax::{LoadFault, Ty, TyAt, TyKind};

@@ -14,7 +14,7 @@ use Rattle.script_rules.specs.FirstFault.{IsFirst, IsFaultless}
 use Rattle.script_rules.specs.SizeFaults.{SizeFault}
 use Rattle.script_rules.specs.ScopeFaults as scope
 use Rattle.script_rules.specs.ScopeFaults.{ScopeFault, IsRight, IsScopeRefusal}
-use Rattle.script_casts.specs.Refusals.{Refuses}
+use Rattle.script_casts.specs.computed.Refusals.{Refuses}
 use Rattle.script_rules.specs.BlockNames.{firsts, all_targets}
 use Rattle.script_rules.specs.Scoping.{IsScope, class_list, main_block}
 use Rattle.typing_rules.specs.BuiltForms.{AreBuilt, not_built}

@@ -20,7 +20,7 @@ use Rattle.script_rules.specs.SizeFaults.{SizeFault}
 use Rattle.name_scope.specs.declared.blocks.TypedFunctions.{TypedFunctions}
 use Rattle.script_rules.specs.NameFaults.{NameFault}
 use Rattle.script_rules.specs.ScopeFaults.{ScopeFault, IsRight, IsScopeRefusal, misnamed, oversized, IsFault, Refuses, IsAnswer}
-use Rattle.name_scope.specs.Typing.{FunctionBlocksStand, FunctionsTyped}
+use Rattle.name_scope.specs.computed.Typing.{FunctionBlocksStand, FunctionsTyped}
 use Rattle.name_scope.proofs.FaultOrder.{one_first}
 use Rattle.name_scope.proofs.Growth.{functions_grow, blocks_grow, blocks_main}
 

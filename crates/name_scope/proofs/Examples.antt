@@ -12,7 +12,7 @@ use Rattle.mono_syntax.specs.Ann.{Ann, ann}
 use Rattle.mono_syntax.specs.Ann as form
 use Rattle.mono_syntax.specs.Expr.{Expr, local, number, call, join, no_exprs, more_exprs}
 use Rattle.mono_syntax.specs.Stmt.{pass, print, assign, start}
-use Rattle.name_scope.specs.FoundFaults.{name_faults, first_of_all}
+use Rattle.name_scope.specs.computed.FoundFaults.{name_faults, first_of_all}
 
 abbrev place : ℕ → ℕ → Place
 place l c = record { line = l; column = c }

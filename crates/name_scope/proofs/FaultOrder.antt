@@ -8,7 +8,7 @@ use Rattle.mono_syntax.specs.declared.refusal.Reason.{Reason}
 use Rattle.mono_syntax.specs.declared.refusal.Reason.TheVariants.{BadChar, Tab, BadDedent, OpenBracket, BadName, BadNumber, BadString, Syntax, UnknownName, Twice, Misused, RecursiveClass, Inconsistent, NoField, Arity, NotCallable, TooManyTypes, TypeTooLarge, TooManyFields, TooManyParameters, TooManyArguments, TooManyNames, TooManyFunctions, TooManyClasses, TooManySites, TooLong, NotBuilt}
 use Rattle.mono_syntax.specs.declared.refusal.Refusal.{Refusal}
 use Rattle.script_rules.specs.FirstFault.{rank, no_later, IsFirst, IsFaultless}
-use Rattle.name_scope.specs.FoundFaults.{first_of_all, first_of_both}
+use Rattle.name_scope.specs.computed.FoundFaults.{first_of_all, first_of_both}
 
 -- a comparison by one number, and by another test where they are equal
 abbrev lex : ℕ → ℕ → Bool → Bool

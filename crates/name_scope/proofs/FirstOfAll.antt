@@ -8,8 +8,8 @@ use Rattle.script_rules.specs.FirstFault.{sooner}
 use Rattle.script_rules.specs.declared.occurrence.Occurrence.{Occurrence}
 use Rattle.name_scope.specs.declared.roles.Roles.{Roles}
 use Rattle.script_rules.specs.Occurrences.{body_of}
-use Rattle.name_scope.specs.NameRoles.{roles_of}
-use Rattle.name_scope.specs.FoundFaults.{first_of_all, faults_at, faults_behind}
+use Rattle.name_scope.specs.computed.NameRoles.{roles_of}
+use Rattle.name_scope.specs.computed.FoundFaults.{first_of_all, faults_at, faults_behind}
 
 pub first_of_all-append : (first : Option Refusal) (rs ts : List Refusal) → first_of_all first (rs ++ ts) ≡ first_of_all (first_of_all first rs) ts
 first_of_all-append first [] ts = refl

@@ -16,7 +16,7 @@ use Rattle.script_rules.specs.Writes.{WritesAny}
 use Rattle.class_types.specs.declared.table.ClassTypes.{ClassTypes}
 use Rattle.class_types.specs.Known.{Begins}
 use Rattle.class_types.specs.Holds.{Holds, Extends}
-use Rattle.name_scope.specs.Typing.{FunctionBlocksStand}
+use Rattle.name_scope.specs.computed.Typing.{FunctionBlocksStand}
 
 pub extends_refl : (k : ClassTypes) → Holds k → Extends k k
 extends_refl k h = record { holds = h; script = refl; classes = refl; types = ([], sym (append-nil k.types)) }

@@ -16,9 +16,9 @@ use Rattle.script_rules.specs.declared.occurrence.Role.TheVariants as role
 use Rattle.name_scope.specs.declared.roles.Roles.{Roles}
 use Rattle.script_rules.specs.Occurrences.{in_block, in_main, defined_by, body_of, definitions, bodies}
 use Rattle.script_rules.specs.NameRules.{is_use, is_value_use, gives_name, is_first_name, is_field, is_definition, StandsBehind, later}
-use Rattle.name_scope.specs.NameRoles.{roles_of, is_unknown, is_twice, is_misused, defined_at}
+use Rattle.name_scope.specs.computed.NameRoles.{roles_of, is_unknown, is_twice, is_misused, defined_at}
 use Rattle.script_rules.specs.NameFaults.{BodyFault, unknown_name, unknown_type, defined_twice, field_twice, given_again, assigned_thread, defined_too, thread_read, joined_early, class_read, NameFault}
-use Rattle.name_scope.specs.FoundFaults.{fault_if, fault_of_both, faults_at, faults_behind, body_faults, name_faults, first_of_all}
+use Rattle.name_scope.specs.computed.FoundFaults.{fault_if, fault_of_both, faults_at, faults_behind, body_faults, name_faults, first_of_all}
 use Rattle.std.proofs.lemmas.Bool.{or_cases, or_right}
 use Rattle.name_scope.proofs.RoleLaws.{stands_field, field_stands, stands_name, name_stands, name_none, none_name, stands_thread, thread_stands, ended_none, none_ended, stands_class, class_stands, class_none, none_class, stands_defined, defined_stands, defined_none, none_defined, first_defined, defined_first}
 use Rattle.name_scope.proofs.FaultOrder.{In, in_append, in_left, in_right, in_flat_map, flat_map_in, in_Contains, Contains_in, first_is}

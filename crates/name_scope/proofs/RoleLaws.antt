@@ -10,7 +10,7 @@ use Rattle.script_rules.specs.declared.occurrence.Occurrence.{Occurrence}
 use Rattle.script_rules.specs.declared.occurrence.Role.{Role}
 use Rattle.script_rules.specs.declared.occurrence.Role.TheVariants as role
 use Rattle.name_scope.specs.declared.roles.Roles.{Roles}
-use Rattle.name_scope.specs.NameRoles.{no_roles, alone, together, roles_of}
+use Rattle.name_scope.specs.computed.NameRoles.{no_roles, alone, together, roles_of}
 use Rattle.script_rules.specs.NameRules.{gives_name, is_field, is_start, is_start_end, is_class, is_definition, Stands, FirstDefined}
 use Rattle.name_scope.proofs.FaultOrder.{In, in_Contains, Contains_in}
 

@@ -15,8 +15,8 @@ use Rattle.mono_tree.proofs.MeetMade.{name_read}
 use Rattle.mono_syntax.specs.declared.leaf.Place.{Place}
 use Rattle.script_rules.specs.declared.occurrence.Occurrence.{Occurrence}
 use Rattle.name_scope.specs.declared.roles.Roles.{Roles}
-use Rattle.name_scope.specs.NameRoles.{no_roles, alone, together, roles_of}
-use Rattle.name_scope.specs.Table.{roles_in}
+use Rattle.name_scope.specs.computed.NameRoles.{no_roles, alone, together, roles_of}
+use Rattle.name_scope.specs.computed.Table.{roles_in}
 
 other_entries : {K : Type 0} (eq : K → K → Bool) (test : K → Bool) {X : Type 0} (old new : List (K × X)) → KeepsOthers eq test old new → (other : K → Bool) → IsKeyTest eq other → AreApart test other → lookup other new ≡ lookup other old
 unfolding KeepsOthers

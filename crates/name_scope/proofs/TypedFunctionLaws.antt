@@ -13,7 +13,7 @@ use Rattle.script_rules.specs.Writes.{IsFunctionType}
 use Rattle.class_types.specs.declared.table.ClassTypes.{ClassTypes}
 use Rattle.class_types.specs.Holds.{Extends}
 use Rattle.name_scope.specs.declared.blocks.TypedFunctions.{TypedFunctions}
-use Rattle.name_scope.specs.Typing.{AreTypable, FunctionBlocksStand, FunctionsTyped}
+use Rattle.name_scope.specs.computed.Typing.{AreTypable, FunctionBlocksStand, FunctionsTyped}
 use Rattle.name_scope.proofs.FirstOfAll.{rest_at, done_at}
 use Rattle.name_scope.proofs.Growth.{extends_trans, begins_trans, stands_grow, functions_grow, functions_push, blocks_grow, blocks_push}
 

@@ -15,10 +15,10 @@ use Rattle.script_rules.specs.declared.occurrence.Role.TheVariants as role
 use Rattle.name_scope.specs.declared.roles.Roles.{Roles}
 use Rattle.name_scope.specs.declared.typing.TypedNames.{TypedNames}
 use Rattle.name_scope.specs.declared.bound.Target as rust
-use Rattle.name_scope.specs.Bound.{target_of}
-use Rattle.name_scope.specs.NameRoles.{alone, together}
-use Rattle.name_scope.specs.Table.{roles_in}
-use Rattle.name_scope.specs.Typing.{NamesTyped}
+use Rattle.name_scope.specs.computed.Bound.{target_of}
+use Rattle.name_scope.specs.computed.NameRoles.{alone, together}
+use Rattle.name_scope.specs.computed.Table.{roles_in}
+use Rattle.name_scope.specs.computed.Typing.{NamesTyped}
 use Rattle.name_scope.proofs.FirstOfAll.{rest_at, done_at}
 use Rattle.name_scope.proofs.BoundTurns.{map-append}
 use Rattle.name_scope.proofs.Growth.{extends_trans, names_grow, names_push, any_push, firsts_push, is_among}

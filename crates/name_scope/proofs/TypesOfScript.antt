@@ -31,10 +31,10 @@ use Rattle.script_rules.specs.declared.occurrence.Occurrence.{Occurrence}
 use Rattle.script_rules.specs.declared.occurrence.Role.TheVariants as role
 use Rattle.name_scope.specs.declared.roles.Roles.{Roles}
 use Rattle.script_rules.specs.Occurrences.{at, in_ann, in_anns, in_any_ann, in_expr, in_target, in_stmt, in_block, in_branches, in_else, in_param, in_function, in_field, in_class, defined_by, definitions, in_main, body_of, bodies}
-use Rattle.name_scope.specs.NameRoles.{alone, together, roles_of, is_twice}
+use Rattle.name_scope.specs.computed.NameRoles.{alone, together, roles_of, is_twice}
 use Rattle.script_rules.specs.NameFaults.{NameFault}
 use Rattle.script_rules.specs.NameRules.{StandsBehind}
-use Rattle.name_scope.specs.Typing.{EachWrites, IsTypable, AreTypable, HasTypes}
+use Rattle.name_scope.specs.computed.Typing.{EachWrites, IsTypable, AreTypable, HasTypes}
 use Rattle.name_scope.proofs.BoundTurns.{targets_of_block}
 use Rattle.name_scope.proofs.ClassesHaveTypes.{HasFields, ann_writes, AreKnown, class_has_fields, all_have_types}
 use Rattle.name_scope.proofs.FaultOrder.{In, in_append, in_left, in_right, in_Contains}

@@ -1,5 +1,4 @@
-pub mod NameRoles
-pub mod FoundFaults
-pub mod Table
-pub mod Bound
-pub mod Typing
+-- Computed: what code computes.
+
+-- the definitions that the proofs tie to the rules
+pub mod computed

@@ -7,7 +7,7 @@ ghost use Rattle.script_rules.specs.Scoping.{class_list, StandsAt, IsBlockScope}
 ghost use Rattle.script_rules.specs.Writes.{IsFunctionType};
 ghost use Rattle.class_types.specs.declared.table.ClassTypes.{ClassTypes};
 ghost use Rattle.class_types.specs.Holds.{Holds, Extends};
-ghost use Rattle.name_scope.specs.Typing.{EachWrites, IsTypable, AreTypable, FunctionsTyped};
+ghost use Rattle.name_scope.specs.computed.Typing.{EachWrites, IsTypable, AreTypable, FunctionsTyped};
 
 use crate::bound::{Bound, function_bound, main_bound};
 use crate::typing::typed_names;

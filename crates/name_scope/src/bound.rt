@@ -2,7 +2,7 @@ ghost use Rattle.std.specs.Prelude.{◌≡◌, [], ◌∷◌, ◌++◌, map, fla
 ghost use Rattle.mono_syntax.specs.StmtView.{block, branches, else_block};
 ghost use Rattle.script_rules.specs.Definitions.{statements_of};
 ghost use Rattle.script_rules.specs.BlockNames.{of_param, all_targets, all_starts, targets, block_targets, branch_targets, else_targets, starts, block_starts, branch_starts, else_starts};
-ghost use Rattle.name_scope.specs.Bound.{target_of, text_of};
+ghost use Rattle.name_scope.specs.computed.Bound.{target_of, text_of};
 
 use mono_syntax::{Ann, Branch, FuncDef, Item, Name, Param, Stmt, StmtKind, Word};
 use sqlite_items::Items;

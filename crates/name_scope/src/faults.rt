@@ -3,9 +3,9 @@ ghost use Rattle.mono_syntax.specs.StmtView.{block};
 ghost use Rattle.script_rules.specs.Definitions.{statements_of};
 ghost use Rattle.script_rules.specs.FirstFault.{IsFirst, IsFaultless};
 ghost use Rattle.script_rules.specs.Occurrences.{body_of, in_block};
-ghost use Rattle.name_scope.specs.FoundFaults.{fault_if, fault_of_both, faults_at, body_faults, first_of_all};
+ghost use Rattle.name_scope.specs.computed.FoundFaults.{fault_if, fault_of_both, faults_at, body_faults, first_of_all};
 ghost use Rattle.script_rules.specs.NameFaults.{NameFault};
-ghost use Rattle.name_scope.specs.Table.{roles_in};
+ghost use Rattle.name_scope.specs.computed.Table.{roles_in};
 
 use crate::bodies::{class_names, defined_names, function_names, main_names};
 use script_rules::Occurrence;

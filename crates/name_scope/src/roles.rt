@@ -1,5 +1,5 @@
 ghost use Rattle.std.specs.Prelude.{◌≡◌};
-ghost use Rattle.name_scope.specs.NameRoles.{no_roles, alone, together};
+ghost use Rattle.name_scope.specs.computed.NameRoles.{no_roles, alone, together};
 
 use script_rules::Role;
 use mono_syntax::Place;

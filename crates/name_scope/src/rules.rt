@@ -1,6 +1,6 @@
 ghost use Rattle.std.specs.Prelude.{◌≡◌};
 ghost use Rattle.script_rules.specs.NameRules.{is_earlier, later};
-ghost use Rattle.name_scope.specs.NameRoles.{is_unknown, is_twice, is_misused, defined_at};
+ghost use Rattle.name_scope.specs.computed.NameRoles.{is_unknown, is_twice, is_misused, defined_at};
 
 use script_rules::Role;
 use crate::roles::Roles;

@@ -3,9 +3,9 @@ ghost use Rattle.mono_syntax.specs.declared.refusal.Refusal.{Refusal};
 ghost use Rattle.script_rules.specs.Scoping.{class_list, IsScope};
 ghost use Rattle.script_rules.specs.FirstFault.{IsFirst, IsFaultless};
 ghost use Rattle.class_types.specs.Holds.{Holds};
-ghost use Rattle.name_scope.specs.FoundFaults.{first_of_both};
+ghost use Rattle.name_scope.specs.computed.FoundFaults.{first_of_both};
 ghost use Rattle.script_rules.specs.ScopeFaults.{ScopeFault, IsRight, IsScopeRefusal, IsFault, Refuses, IsAnswer};
-ghost use Rattle.name_scope.specs.Typing.{HasTypes};
+ghost use Rattle.name_scope.specs.computed.Typing.{HasTypes};
 
 use crate::blocks::{TypedFunctions, main_scope, typed_functions};
 use crate::faults::name_refusal;

@@ -1,6 +1,6 @@
 ghost use Rattle.std.specs.Prelude.{◌≡◌, ℕ, List, bytes_eq, if◌then◌else◌, OnOk, IfOk};
-ghost use Rattle.name_scope.specs.NameRoles.{no_roles, alone, together, roles_of};
-ghost use Rattle.name_scope.specs.Table.{roles_in};
+ghost use Rattle.name_scope.specs.computed.NameRoles.{no_roles, alone, together, roles_of};
+ghost use Rattle.name_scope.specs.computed.Table.{roles_in};
 
 use script_rules::Occurrence;
 use crate::roles::{Roles, alone, no_roles, together};

@@ -6,8 +6,8 @@ ghost use Rattle.script_rules.specs.Scoping.{class_list, StandsAt, NamesStand};
 ghost use Rattle.script_rules.specs.Writes.{WritesAny};
 ghost use Rattle.class_types.specs.declared.table.ClassTypes.{ClassTypes};
 ghost use Rattle.class_types.specs.Holds.{Holds, Extends};
-ghost use Rattle.name_scope.specs.Bound.{target_of};
-ghost use Rattle.name_scope.specs.Typing.{EachWrites, NamesTyped};
+ghost use Rattle.name_scope.specs.computed.Bound.{target_of};
+ghost use Rattle.name_scope.specs.computed.Typing.{EachWrites, NamesTyped};
 
 use crate::bound::Target;
 use script_rules::{Occurrence, Role};

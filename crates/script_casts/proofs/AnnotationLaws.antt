@@ -18,7 +18,7 @@ use Rattle.mono_syntax.proofs.Lists.{tys-tys_list}
 use Rattle.mono_tree.specs.TypedPrograms.{type_of_name}
 use Rattle.script_rules.specs.Definitions.{class_named}
 use Rattle.script_rules.specs.Writes.{in_order, Writes, writes_dyn, writes_int, writes_bool, writes_str, writes_nil, writes_class, writes_fun, WriteAll, write_none, write_more, Declares, declares_none, declares_more}
-use Rattle.script_casts.specs.Annotations.{written, written_form, written_all, is_written, is_written_form, are_written, known_fields}
+use Rattle.script_casts.specs.computed.Annotations.{written, written_form, written_all, is_written, is_written_form, are_written, known_fields}
 use Rattle.script_casts.proofs.Classes.{TypesKnown, SameType, same_type}
 use Rattle.script_casts.proofs.Steps.{then_some, map_some}
 use Rattle.script_casts.proofs.WriteLaws.{declares_once}

@@ -12,7 +12,7 @@ use Rattle.script_rules.specs.Writes.{in_order, Declares, IsClassType}
 use Rattle.typing_rules.specs.Members.{Names, Numbered, class_from}
 use Rattle.script_casts.specs.declared.known.Known.{Known}
 use Rattle.script_casts.specs.declared.known.KnownClass.{KnownClass}
-use Rattle.script_casts.specs.KnownNames.{known_class}
+use Rattle.script_casts.specs.computed.KnownNames.{known_class}
 
 -- these are the types of the classes, by name
 abbrev pub TypesKnown : List ClassDef → List ClassDef → List NamedType → Type 0

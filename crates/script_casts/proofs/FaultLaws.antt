@@ -31,11 +31,11 @@ use Rattle.script_casts.specs.declared.sites.Cast.{Cast}
 use Rattle.script_casts.specs.declared.sites.Pair.{Pair}
 use Rattle.script_casts.specs.declared.sites.Part.{Part}
 use Rattle.script_casts.specs.declared.sites.Table.{Table}
-use Rattle.script_casts.specs.Annotations.{written, is_written}
-use Rattle.script_casts.specs.Fine.{is_fine, are_fine}
-use Rattle.script_casts.specs.KnownNames.{known_class}
-use Rattle.script_casts.specs.OperatorTests.{is_equality, is_arithmetic, is_dyn_sum}
-use Rattle.script_casts.specs.Inserted.{and_then, plain, used, cast_to, read_name, used_both, calculated, compared, on_integers, int_operator, dyn_sum, converted, equated, operated, negated, denied, conjoined, disjoined, read_typed, read_member, used_from, object_of, called, inserted, inserted_all}
+use Rattle.script_casts.specs.computed.Annotations.{written, is_written}
+use Rattle.script_casts.specs.computed.Fine.{is_fine, are_fine}
+use Rattle.script_casts.specs.computed.KnownNames.{known_class}
+use Rattle.script_casts.specs.computed.OperatorTests.{is_equality, is_arithmetic, is_dyn_sum}
+use Rattle.script_casts.specs.computed.Inserted.{and_then, plain, used, cast_to, read_name, used_both, calculated, compared, on_integers, int_operator, dyn_sum, converted, equated, operated, negated, denied, conjoined, disjoined, read_typed, read_member, used_from, object_of, called, inserted, inserted_all}
 use Rattle.script_casts.proofs.AnnotationLaws.{found_writes, is_written-written}
 use Rattle.script_casts.proofs.Classes.{IsKnownClass, IsKnown, SameClass, same_class}
 use Rattle.script_casts.proofs.InsertLaws.{Within, within_before, IsInserted, AreInserted, inserted_ok, all_inserted_ok}

@@ -20,9 +20,9 @@ use Rattle.typing_rules.specs.BuiltForms.{IsBuilt, AreBuiltExprs, HasBranch, IsB
 use Rattle.typing_rules.specs.Members.{Names, Numbered, class_at}
 use Rattle.script_casts.specs.declared.known.Known.{Known}
 use Rattle.script_casts.specs.declared.known.KnownClass.{KnownClass}
-use Rattle.script_casts.specs.Annotations.{written, is_written}
-use Rattle.script_casts.specs.Fine.{is_fine, are_fine, has_branch, is_fine_line, are_fine_lines, are_fine_branches, is_fine_else, all_fine}
-use Rattle.script_casts.specs.KnownNames.{known_class}
+use Rattle.script_casts.specs.computed.Annotations.{written, is_written}
+use Rattle.script_casts.specs.computed.Fine.{is_fine, are_fine, has_branch, is_fine_line, are_fine_lines, are_fine_branches, is_fine_else, all_fine}
+use Rattle.script_casts.specs.computed.KnownNames.{known_class}
 use Rattle.script_casts.proofs.AnnotationLaws.{found_writes, written_found, is_written-written}
 use Rattle.script_casts.proofs.Classes.{IsKnown, SameClass, same_class}
 

@@ -39,10 +39,10 @@ use Rattle.script_casts.specs.declared.sites.Cast.{Cast}
 use Rattle.script_casts.specs.declared.sites.Pair.{Pair}
 use Rattle.script_casts.specs.declared.sites.Part.{Part}
 use Rattle.script_casts.specs.declared.sites.Table.{Table}
-use Rattle.script_casts.specs.Annotations.{written}
-use Rattle.script_casts.specs.KnownNames.{known_class}
-use Rattle.script_casts.specs.OperatorTests.{is_equality, is_arithmetic, is_dyn_sum}
-use Rattle.script_casts.specs.Inserted.{used, cast_to, read_name, used_both, calculated, compared, on_integers, int_operator, dyn_sum, converted, equated, operated, read_typed, read_member, used_from, new_object, object_of, called, inserted, inserted_all}
+use Rattle.script_casts.specs.computed.Annotations.{written}
+use Rattle.script_casts.specs.computed.KnownNames.{known_class}
+use Rattle.script_casts.specs.computed.OperatorTests.{is_equality, is_arithmetic, is_dyn_sum}
+use Rattle.script_casts.specs.computed.Inserted.{used, cast_to, read_name, used_both, calculated, compared, on_integers, int_operator, dyn_sum, converted, equated, operated, read_typed, read_member, used_from, new_object, object_of, called, inserted, inserted_all}
 use Rattle.script_casts.proofs.AnnotationLaws.{written_found}
 use Rattle.script_casts.proofs.Classes.{IsKnown, SameClass, same_class}
 use Rattle.script_casts.proofs.FineLaws.{name_known}

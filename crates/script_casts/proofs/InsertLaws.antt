@@ -34,11 +34,11 @@ use Rattle.script_casts.specs.declared.sites.Cast.{Cast}
 use Rattle.script_casts.specs.declared.sites.Pair.{Pair}
 use Rattle.script_casts.specs.declared.sites.Part.{Part}
 use Rattle.script_casts.specs.declared.sites.Table.{Table}
-use Rattle.script_casts.specs.Annotations.{written}
-use Rattle.script_casts.specs.KnownNames.{known_class}
-use Rattle.script_casts.specs.OperatorTests.{is_equality, is_arithmetic, is_dyn_sum}
-use Rattle.script_casts.specs.Inserted.{and_then, plain, used, cast_to, read_name, used_both, calculated, compared, on_integers, int_operator, dyn_sum, converted, equated, operated, negated, denied, conjoined, disjoined, read_typed, read_member, used_from, object_of, called, inserted, inserted_all}
-use Rattle.script_casts.specs.Lines.{expr_of_part}
+use Rattle.script_casts.specs.computed.Annotations.{written}
+use Rattle.script_casts.specs.computed.KnownNames.{known_class}
+use Rattle.script_casts.specs.computed.OperatorTests.{is_equality, is_arithmetic, is_dyn_sum}
+use Rattle.script_casts.specs.computed.Inserted.{and_then, plain, used, cast_to, read_name, used_both, calculated, compared, on_integers, int_operator, dyn_sum, converted, equated, operated, negated, denied, conjoined, disjoined, read_typed, read_member, used_from, object_of, called, inserted, inserted_all}
+use Rattle.script_casts.specs.computed.Lines.{expr_of_part}
 use Rattle.script_casts.proofs.AnnotationLaws.{found_writes}
 use Rattle.script_casts.proofs.Classes.{IsKnownClass, IsKnown, SameClass, same_class}
 use Rattle.script_casts.proofs.OperatorTests.{equality_is, not_equality, arithmetic_is, comparison_is, dyn_sum_is, not_dyn_sum}

@@ -24,9 +24,9 @@ use Rattle.typing_rules.specs.HasCasts.{AreClasses, AreNames, IsMainNames}
 use Rattle.typing_rules.specs.Members.{Names}
 use Rattle.script_casts.specs.declared.known.Known.{Known}
 use Rattle.script_casts.specs.declared.known.KnownClass.{KnownClass}
-use Rattle.script_casts.specs.Annotations.{known_fields}
-use Rattle.script_casts.specs.KnownNames.{type_at, with_class_type, class_types, classes_and, with_class, classes_from, values_from, last_block, block_values, known_with, known_in}
-use Rattle.script_casts.specs.Lines.{class_of}
+use Rattle.script_casts.specs.computed.Annotations.{known_fields}
+use Rattle.script_casts.specs.computed.KnownNames.{type_at, with_class_type, class_types, classes_and, with_class, classes_from, values_from, last_block, block_values, known_with, known_in}
+use Rattle.script_casts.specs.computed.Lines.{class_of}
 use Rattle.script_casts.proofs.AnnotationLaws.{fields_there, fields_known}
 use Rattle.script_casts.proofs.Classes.{TypesKnown, IsKnownClass, ClassesKnown, IsKnown}
 use Rattle.script_casts.proofs.WriteLaws.{declares_once}

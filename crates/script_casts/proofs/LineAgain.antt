@@ -30,9 +30,9 @@ use Rattle.script_casts.specs.declared.sites.Cast.{Cast}
 use Rattle.script_casts.specs.declared.sites.Part.{Part}
 use Rattle.script_casts.specs.declared.sites.Table.{Table}
 use Rattle.script_casts.specs.declared.statements.Line.{Line}
-use Rattle.script_casts.specs.Fine.{is_fine, has_branch, is_fine_line, are_fine_lines, are_fine_branches, is_fine_else}
-use Rattle.script_casts.specs.Inserted.{used, inserted, inserted_all}
-use Rattle.script_casts.specs.Lines.{assigned_value, static_write, write_typed, write_member, condition, begun, next, conditional, unbranched, with_branch, ended, line_of, block_from, branches_from, last_of}
+use Rattle.script_casts.specs.computed.Fine.{is_fine, has_branch, is_fine_line, are_fine_lines, are_fine_branches, is_fine_else}
+use Rattle.script_casts.specs.computed.Inserted.{used, inserted, inserted_all}
+use Rattle.script_casts.specs.computed.Lines.{assigned_value, static_write, write_typed, write_member, condition, begun, next, conditional, unbranched, with_branch, ended, line_of, block_from, branches_from, last_of}
 use Rattle.script_casts.proofs.Classes.{IsKnown}
 use Rattle.script_casts.proofs.FineLaws.{there, name_known}
 use Rattle.script_casts.proofs.InsertAgain.{apart_so, unless_so, Inserts, InsertsAt, used_again, StopsAt, part_stops, use_stops, again, at_again, all_again, fault_again, at_fault_again, all_fault_again, dyn_not_apart}

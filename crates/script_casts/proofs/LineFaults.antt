@@ -25,9 +25,9 @@ use Rattle.script_casts.specs.declared.sites.Cast.{Cast}
 use Rattle.script_casts.specs.declared.sites.Part.{Part}
 use Rattle.script_casts.specs.declared.sites.Table.{Table}
 use Rattle.script_casts.specs.declared.statements.Line.{Line}
-use Rattle.script_casts.specs.Fine.{is_fine, has_branch, is_fine_line, are_fine_lines, are_fine_branches}
-use Rattle.script_casts.specs.Inserted.{and_then, used, inserted, inserted_all}
-use Rattle.script_casts.specs.Lines.{assigned_value, write_typed, write_member, alone, condition, begun, next, conditional, unbranched, with_branch, branched, ended, line_of, block_from, branches_from}
+use Rattle.script_casts.specs.computed.Fine.{is_fine, has_branch, is_fine_line, are_fine_lines, are_fine_branches}
+use Rattle.script_casts.specs.computed.Inserted.{and_then, used, inserted, inserted_all}
+use Rattle.script_casts.specs.computed.Lines.{assigned_value, write_typed, write_member, alone, condition, begun, next, conditional, unbranched, with_branch, branched, ended, line_of, block_from, branches_from}
 use Rattle.script_casts.proofs.Classes.{IsKnown}
 use Rattle.script_casts.proofs.FaultLaws.{HasDyn, has_dyn, within_itself, IsRefusedAt, use_err, inserted_err, all_inserted_err}
 use Rattle.script_casts.proofs.InsertLaws.{Within, within_before, IsInserted, inserted_ok}

@@ -35,8 +35,8 @@ use Rattle.script_casts.specs.declared.blocks.Branched.{Branched}
 use Rattle.script_casts.specs.declared.blocks.Guarded.{Guarded}
 use Rattle.script_casts.specs.declared.blocks.Last.{Last}
 use Rattle.script_casts.specs.declared.statements.Line.{Line}
-use Rattle.script_casts.specs.Inserted.{and_then, with_plain, with_site, used, inserted, inserted_all}
-use Rattle.script_casts.specs.Lines.{assigned_value, expr_of_part, printed_values, dyn_write, static_write, write_typed, write_member, alone, condition, begun, next, conditional, looped, unbranched, with_branch, branched, ended, line_of, block_from, branches_from, last_of, lines_from}
+use Rattle.script_casts.specs.computed.Inserted.{and_then, with_plain, with_site, used, inserted, inserted_all}
+use Rattle.script_casts.specs.computed.Lines.{assigned_value, expr_of_part, printed_values, dyn_write, static_write, write_typed, write_member, alone, condition, begun, next, conditional, looped, unbranched, with_branch, branched, ended, line_of, block_from, branches_from, last_of, lines_from}
 use Rattle.script_casts.proofs.Classes.{IsKnown}
 use Rattle.script_casts.proofs.InsertLaws.{Within, within_before, IsInserted, IsInsertedAt, at_ok, inserted_ok, all_inserted_ok}
 use Rattle.script_casts.proofs.PartLaws.{type_of_part}

@@ -7,9 +7,9 @@ use Rattle.mono_syntax.specs.declared.refusal.LoadFault.{LoadFault}
 use Rattle.script_casts.specs.declared.sites.Cast.{Cast}
 use Rattle.script_casts.specs.declared.sites.Part.{Part}
 use Rattle.script_casts.specs.declared.sites.Table.{Table}
-use Rattle.script_casts.specs.Inserted.{int_operator, dyn_sum, converted}
-use Rattle.script_casts.specs.OperatorTests.{is_dyn_sum}
-use Rattle.script_casts.specs.Refusals.{Gives}
+use Rattle.script_casts.specs.computed.Inserted.{int_operator, dyn_sum, converted}
+use Rattle.script_casts.specs.computed.OperatorTests.{is_dyn_sum}
+use Rattle.script_casts.specs.computed.Refusals.{Gives}
 
 pub not_summed : (d : TyAt) (o : Op) (p : Place) (a b : Part) (c : Table) (r : Result Cast LoadFault) → is_dyn_sum o a.ty b.ty ≡ false
     → Gives r (int_operator d o p a b c) → Gives r (converted d o p a b c)

@@ -5,8 +5,8 @@ use Rattle.mono_syntax.specs.declared.leaf.Op.{Op}
 use Rattle.mono_syntax.specs.declared.leaf.Op.TheVariants.{Add}
 use Rattle.mono_syntax.specs.Ty.{Ty, dyn}
 use Rattle.typing_rules.specs.Operators.{Sort, arithmetic, comparison, equality, sort_of}
-use Rattle.script_casts.specs.OperatorTests.{is_equality, is_arithmetic, is_dyn_sum}
-use Rattle.script_casts.specs.TypeList.{is_dyn}
+use Rattle.script_casts.specs.computed.OperatorTests.{is_equality, is_arithmetic, is_dyn_sum}
+use Rattle.script_casts.specs.computed.TypeList.{is_dyn}
 
 -- ---- sorts
 

@@ -20,8 +20,8 @@ use Rattle.typing_rules.specs.TypingFaults.{at, UseFault, here, later}
 use Rattle.script_casts.specs.declared.objects.Arguments.{Arguments}
 use Rattle.script_casts.specs.declared.sites.Cast.{Cast}
 use Rattle.script_casts.specs.declared.sites.Part.{Part}
-use Rattle.script_casts.specs.Inserted.{used, with_argument, used_from}
-use Rattle.script_casts.specs.Lines.{expr_of_part}
+use Rattle.script_casts.specs.computed.Inserted.{used, with_argument, used_from}
+use Rattle.script_casts.specs.computed.Lines.{expr_of_part}
 use Rattle.script_casts.proofs.SiteLaws.{used_ok, used_err, used_unless, used_apart, uses_not_apart, meet_not_apart}
 use Rattle.script_casts.proofs.Steps.{ok_is, ok_err, then_ok, first_err, second_err, then_err, then_is, then_stops}
 use Rattle.script_casts.proofs.TypeListLaws.{Keeps, Grows, stays, grows_on}

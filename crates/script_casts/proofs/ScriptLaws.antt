@@ -25,11 +25,11 @@ use Rattle.typing_rules.proofs.TypedLaws.{well_typed}
 use Rattle.script_casts.specs.declared.known.Known.{Known}
 use Rattle.script_casts.specs.declared.blocks.Body.{Body}
 use Rattle.script_casts.specs.declared.types.Placed.{Placed}
-use Rattle.script_casts.specs.Fine.{all_fine}
-use Rattle.script_casts.specs.Inserted.{and_then}
-use Rattle.script_casts.specs.Lines.{class_of, block_from, lines_from, finished, start, made_from, made}
-use Rattle.script_casts.specs.Refusals.{Gives, Refuses}
-use Rattle.script_casts.specs.TypeList.{with_type}
+use Rattle.script_casts.specs.computed.Fine.{all_fine}
+use Rattle.script_casts.specs.computed.Inserted.{and_then}
+use Rattle.script_casts.specs.computed.Lines.{class_of, block_from, lines_from, finished, start, made_from, made}
+use Rattle.script_casts.specs.computed.Refusals.{Gives, Refuses}
+use Rattle.script_casts.specs.computed.TypeList.{with_type}
 use Rattle.script_casts.proofs.FineLaws.{fine_items, items_fine, fine_block}
 use Rattle.script_casts.proofs.InsertLaws.{Within}
 use Rattle.script_casts.proofs.KnownLaws.{IsFound, known_found, cast_classes}

@@ -23,8 +23,8 @@ use Rattle.typing_rules.specs.TypingFaults.{at}
 use Rattle.script_casts.specs.declared.sites.Cast.{Cast}
 use Rattle.script_casts.specs.declared.sites.Part.{Part}
 use Rattle.script_casts.specs.declared.sites.Table.{Table}
-use Rattle.script_casts.specs.TypeList.{consistent, with_type}
-use Rattle.script_casts.specs.Inserted.{with_site, plain, fitted, used}
+use Rattle.script_casts.specs.computed.TypeList.{consistent, with_type}
+use Rattle.script_casts.specs.computed.Inserted.{with_site, plain, fitted, used}
 use Rattle.script_casts.proofs.Steps.{ok_is, err_ok, ok_err, err_is}
 use Rattle.script_casts.proofs.TypeListLaws.{Keeps, Grows, stays, grows_on, is_placed}
 

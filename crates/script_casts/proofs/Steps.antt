@@ -3,7 +3,7 @@ use Rattle.std.proofs.Common.{◌≡◌, Result, Ok, Err, refl, ap}
 use Rattle.std.specs.Prelude.{Option, Some, None, option_and_then}
 use Rattle.std.specs.Option.{option_map}
 use Rattle.mono_syntax.specs.declared.refusal.Refusal.{Refusal}
-use Rattle.script_casts.specs.Inserted.{and_then}
+use Rattle.script_casts.specs.computed.Inserted.{and_then}
 
 -- ---- options
 

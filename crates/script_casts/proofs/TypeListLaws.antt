@@ -9,7 +9,7 @@ use Rattle.mono_tree.specs.Precision.{precise}
 use Rattle.mono_tree.proofs.TypeLaws.{precise_refl, precise_antisym}
 use Rattle.mono_tree.specs.ClosedList.{AreDistinct}
 use Rattle.script_casts.specs.declared.types.Placed.{Placed}
-use Rattle.script_casts.specs.TypeList.{same, position_from, placed, with_type}
+use Rattle.script_casts.specs.computed.TypeList.{same, position_from, placed, with_type}
 
 -- ---- lists that grow
 

@@ -3,7 +3,7 @@ use Rattle.std.proofs.Common.{◌≡◌, List, [], ◌∷◌, length, Ok, refl, 
 use Rattle.mono_syntax.specs.declared.tree.Field.{Field}
 use Rattle.script_casts.specs.declared.objects.Arguments.{Arguments}
 use Rattle.script_casts.specs.declared.sites.Part.{Part}
-use Rattle.script_casts.specs.Inserted.{used_from}
+use Rattle.script_casts.specs.computed.Inserted.{used_from}
 
 pub no_arguments : (done : Arguments) (xs : List Part) (fs : List Field) → length xs ≡ 0 → used_from done xs fs ≡ Ok done
 no_arguments done [] fs h = refl

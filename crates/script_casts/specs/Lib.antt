@@ -1,8 +1,4 @@
-pub mod Refusals
-pub mod TypeList
-pub mod OperatorTests
-pub mod Annotations
-pub mod KnownNames
-pub mod Fine
-pub mod Inserted
-pub mod Lines
+-- Computed: what code computes.
+
+-- the definitions that the proofs tie to the rules
+pub mod computed

@@ -2,7 +2,7 @@ ghost use Rattle.std.specs.Prelude.{◌≡◌, [], IfOk};
 ghost use Rattle.std.specs.Option.{option_copied};
 ghost use Rattle.mono_syntax.specs.AnnView.{anns};
 ghost use Rattle.mono_tree.specs.TypedPrograms.{type_of_name};
-ghost use Rattle.script_casts.specs.Annotations.{written, written_all, is_written, are_written, known_fields};
+ghost use Rattle.script_casts.specs.computed.Annotations.{written, written_all, is_written, are_written, known_fields};
 
 use crate::types::new_type;
 use mono_list::Shared;

@@ -1,8 +1,8 @@
 ghost use Rattle.std.specs.Prelude.{◌≡◌, Ok};
 ghost use Rattle.mono_syntax.specs.ExprView.{exprs};
 ghost use Rattle.mono_syntax.specs.StmtView.{block, branches, else_block};
-ghost use Rattle.script_casts.specs.Lines.{condition, begun, conditional, looped, unbranched, branched, line_of, block_from, branches_from, last_of, with_line, with_item, lines_from};
-ghost use Rattle.script_casts.specs.Refusals.{Gives};
+ghost use Rattle.script_casts.specs.computed.Lines.{condition, begun, conditional, looped, unbranched, branched, line_of, block_from, branches_from, last_of, with_line, with_item, lines_from};
+ghost use Rattle.script_casts.specs.computed.Refusals.{Gives};
 
 use crate::annotations::type_of;
 use crate::known::Known;

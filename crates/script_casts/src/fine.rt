@@ -1,7 +1,7 @@
 ghost use Rattle.std.specs.Prelude.{◌≡◌};
 ghost use Rattle.mono_syntax.specs.ExprView.{exprs};
 ghost use Rattle.mono_syntax.specs.StmtView.{block, branches, else_block};
-ghost use Rattle.script_casts.specs.Fine.{is_class, is_fine, are_fine, has_branch, is_fine_line, are_fine_lines, are_fine_branches, is_fine_else, is_fine_item, all_fine};
+ghost use Rattle.script_casts.specs.computed.Fine.{is_class, is_fine, are_fine, has_branch, is_fine_line, are_fine_lines, are_fine_branches, is_fine_else, is_fine_item, all_fine};
 
 use crate::annotations::{is_written, type_of};
 use crate::known::{Known, KnownClass, known_class};

@@ -1,7 +1,7 @@
 ghost use Rattle.std.specs.Prelude.{[]};
 ghost use Rattle.mono_syntax.specs.ExprView.{exprs};
-ghost use Rattle.script_casts.specs.Inserted.{and_then, in_turn, operated, negated, denied, conjoined, disjoined, named, inserted, inserted_all};
-ghost use Rattle.script_casts.specs.Refusals.{Gives};
+ghost use Rattle.script_casts.specs.computed.Inserted.{and_then, in_turn, operated, negated, denied, conjoined, disjoined, named, inserted, inserted_all};
+ghost use Rattle.script_casts.specs.computed.Refusals.{Gives};
 
 use crate::annotations::{type_of, written};
 use crate::known::Known;

@@ -2,8 +2,8 @@ ghost use Rattle.std.specs.Prelude.{◌≡◌, [], IfOk, Ok};
 ghost use Rattle.std.specs.Option.{option_copied};
 ghost use Rattle.mono_syntax.specs.TyView.{fields};
 ghost use Rattle.typing_rules.specs.Members.{field_type};
-ghost use Rattle.script_casts.specs.KnownNames.{known_class, type_at, with_class_type, class_types, classes_and, with_class, classes_from, values_from, last_block, block_values, known_with, known_in};
-ghost use Rattle.script_casts.specs.Refusals.{Gives};
+ghost use Rattle.script_casts.specs.computed.KnownNames.{known_class, type_at, with_class_type, class_types, classes_and, with_class, classes_from, values_from, last_block, block_values, known_with, known_in};
+ghost use Rattle.script_casts.specs.computed.Refusals.{Gives};
 
 use crate::annotations::known_fields;
 use mono_list::Shared;

@@ -1,7 +1,7 @@
 ghost use Rattle.std.specs.Prelude.{[]};
 ghost use Rattle.std.specs.Option.{option_copied};
-ghost use Rattle.script_casts.specs.Inserted.{with_argument, used_from, new_object, object_of, called};
-ghost use Rattle.script_casts.specs.Refusals.{Gives};
+ghost use Rattle.script_casts.specs.computed.Inserted.{with_argument, used_from, new_object, object_of, called};
+ghost use Rattle.script_casts.specs.computed.Refusals.{Gives};
 
 use crate::known::{Known, KnownClass, known_class};
 use crate::sites::{Cast, NOT_BUILT, Part, Table, plain, shared};

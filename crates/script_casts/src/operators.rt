@@ -1,9 +1,9 @@
 ghost use Rattle.std.specs.Prelude.{◌≡◌};
 ghost use Rattle.mono_syntax.specs.TyView.{ty_of};
 ghost use Rattle.typing_rules.specs.Operators.{sort_of};
-ghost use Rattle.script_casts.specs.Inserted.{used_both, calculated, compared, on_integers, int_operator, dyn_sum, converted, equated, operated, negated, denied, conjoined, disjoined};
-ghost use Rattle.script_casts.specs.OperatorTests.{is_equality, is_arithmetic, is_dyn_sum};
-ghost use Rattle.script_casts.specs.Refusals.{Gives};
+ghost use Rattle.script_casts.specs.computed.Inserted.{used_both, calculated, compared, on_integers, int_operator, dyn_sum, converted, equated, operated, negated, denied, conjoined, disjoined};
+ghost use Rattle.script_casts.specs.computed.OperatorTests.{is_equality, is_arithmetic, is_dyn_sum};
+ghost use Rattle.script_casts.specs.computed.Refusals.{Gives};
 
 use crate::sites::{Cast, Pair, Part, Table, of_base_type, with_plain_site};
 use crate::types::{is_dyn, new_type};

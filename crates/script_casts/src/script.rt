@@ -5,9 +5,9 @@ ghost use Rattle.mono_syntax.specs.Ty.{dyn};
 ghost use Rattle.mono_tree.specs.TypedPrograms.{IsTypedProgram};
 ghost use Rattle.script_rules.specs.Scoping.{IsScope};
 ghost use Rattle.typing_rules.specs.HasCasts.{HasCasts, IsRefusal, IsFault, HaveClassTypes};
-ghost use Rattle.script_casts.specs.Lines.{class_of, finished, made_with, made_at, made};
-ghost use Rattle.script_casts.specs.TypeList.{with_type};
-ghost use Rattle.script_casts.specs.Refusals.{Gives, Refuses};
+ghost use Rattle.script_casts.specs.computed.Lines.{class_of, finished, made_with, made_at, made};
+ghost use Rattle.script_casts.specs.computed.TypeList.{with_type};
+ghost use Rattle.script_casts.specs.computed.Refusals.{Gives, Refuses};
 
 use crate::blocks::{Body, all_lines};
 use crate::fine::all_fine;

@@ -1,8 +1,8 @@
 ghost use Rattle.std.specs.Prelude.{◌≡◌, [], ◌∷◌, ◌++◌, IfOk, Ok, length};
 ghost use Rattle.mono_syntax.specs.CastExprView.{cast_expr_of};
 ghost use Rattle.mono_syntax.specs.TyView.{ty_of};
-ghost use Rattle.script_casts.specs.Inserted.{plain, with_site, with_plain};
-ghost use Rattle.script_casts.specs.Refusals.{Gives};
+ghost use Rattle.script_casts.specs.computed.Inserted.{plain, with_site, with_plain};
+ghost use Rattle.script_casts.specs.computed.Refusals.{Gives};
 
 use crate::types::{new_type, with_type};
 use mono_list::Shared;

@@ -1,8 +1,8 @@
 ghost use Rattle.std.specs.Prelude.{◌≡◌, IfOk, Ok, map};
 ghost use Rattle.std.specs.Option.{option_copied};
 ghost use Rattle.mono_syntax.specs.ExprView.{exprs};
-ghost use Rattle.script_casts.specs.Lines.{assigned_value, expr_of_part, printed_values, dyn_write, static_write, write_used, write_typed, write_member, written_value, alone, condition};
-ghost use Rattle.script_casts.specs.Refusals.{Gives};
+ghost use Rattle.script_casts.specs.computed.Lines.{assigned_value, expr_of_part, printed_values, dyn_write, static_write, write_used, write_typed, write_member, written_value, alone, condition};
+ghost use Rattle.script_casts.specs.computed.Refusals.{Gives};
 
 use crate::annotations::type_of;
 use crate::inserting::{inserted, inserted_all};

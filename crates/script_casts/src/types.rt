@@ -3,8 +3,8 @@ ghost use Rattle.mono_syntax.specs.TyView.{ty_of};
 ghost use Rattle.mono_tree.specs.Meet.{meet_of};
 ghost use Rattle.mono_tree.specs.Precision.{precise};
 ghost use Rattle.mono_tree.specs.Static.{is_static};
-ghost use Rattle.script_casts.specs.Refusals.{Gives};
-ghost use Rattle.script_casts.specs.TypeList.{is_dyn, same, consistent, position_from, with_type};
+ghost use Rattle.script_casts.specs.computed.Refusals.{Gives};
+ghost use Rattle.script_casts.specs.computed.TypeList.{is_dyn, same, consistent, position_from, with_type};
 
 use mono_list::Shared;
 use mono_syntax::{LoadFault, Ty, TyAt, TyKind};

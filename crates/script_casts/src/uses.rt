@@ -4,8 +4,8 @@ ghost use Rattle.mono_syntax.specs.declared.refusal.Reason.TheVariants.{NoField}
 ghost use Rattle.mono_syntax.specs.Ty.{dyn};
 ghost use Rattle.typing_rules.specs.TypingFaults.{at};
 ghost use Rattle.std.specs.Option.{option_copied};
-ghost use Rattle.script_casts.specs.Inserted.{fitted, used, cast_to, read_name, read_typed, read_member};
-ghost use Rattle.script_casts.specs.Refusals.{Gives};
+ghost use Rattle.script_casts.specs.computed.Inserted.{fitted, used, cast_to, read_name, read_typed, read_member};
+ghost use Rattle.script_casts.specs.computed.Refusals.{Gives};
 
 use crate::known::field_of;
 use crate::sites::{Cast, NOT_BUILT, Part, Table, of_base_type, plain, with_plain_site, with_site};

@@ -1,5 +1,5 @@
 use Rattle.std.proofs.Common.{◌≡◌, ◌∙◌, sym, ap, false, map, arith}
-use Rattle.class_types.specs.NewNames.{known}
+use Rattle.class_types.specs.computed.NewNames.{known}
 use Rattle.class_types.proofs.NameLaws.{crowded-next}
 use Rattle.class_types.proofs.block.crowded.Goals as goal
 

@@ -1,6 +1,6 @@
 use Rattle.std.proofs.Common.{◌≡◌, ◌≤◌, ◌-◌, [], map, drop, vec_len}
 use Rattle.std.specs.Prelude.{slice_get}
-use Rattle.class_types.specs.NewNames.{new_words}
+use Rattle.class_types.specs.computed.NewNames.{new_words}
 use Rattle.class_types.proofs.block.crowded.Given as goal
 use Rattle.mono_syntax.specs.Limits.{most_names}
 

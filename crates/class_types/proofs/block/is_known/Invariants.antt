@@ -1,5 +1,5 @@
 use Rattle.std.proofs.Common.{◌≡◌, map, drop}
-use Rattle.class_types.specs.NewNames.{known}
+use Rattle.class_types.specs.computed.NewNames.{known}
 use Rattle.class_types.proofs.block.is_known.Given as goal
 
 abbrev pub invariant-loop-word : goal.invariant-loop-word

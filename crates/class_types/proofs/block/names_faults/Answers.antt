@@ -1,7 +1,7 @@
 use Rattle.std.proofs.Common.{◌≡◌, ◌∙◌, ◌++◌, ap, subst, [], map, IfOk}
 use Rattle.std.specs.Prelude.{slice_get}
-use Rattle.class_types.specs.FoundFaults.{first_from, name_fault}
-use Rattle.class_types.specs.NewNames.{new_words}
+use Rattle.class_types.specs.computed.FoundFaults.{first_from, name_fault}
+use Rattle.class_types.specs.computed.NewNames.{new_words}
 use Rattle.script_rules.specs.SourceParts.{block_names, body_bound}
 use Rattle.class_types.proofs.NameLaws.{new-first}
 use Rattle.class_types.proofs.block.names_faults.Goals as goal

@@ -1,6 +1,6 @@
 use Rattle.std.proofs.Common.{refl}
 use Rattle.mono_syntax.specs.AnnView.{anns}
-use Rattle.class_types.specs.FoundFaults.{wide}
+use Rattle.class_types.specs.computed.FoundFaults.{wide}
 use Rattle.script_rules.specs.SourceParts.{callables, callables_all}
 use Rattle.class_types.proofs.FoundLaws.{found-next}
 use Rattle.class_types.proofs.faults.+wide.Goals as goal

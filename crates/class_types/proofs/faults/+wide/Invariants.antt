@@ -1,7 +1,7 @@
 use Rattle.std.proofs.Common.{◌≡◌, ◌+◌, ◌*◌, drop}
 use Rattle.mono_syntax.specs.Ann.{ann_size, anns_size}
 use Rattle.mono_syntax.specs.AnnView.{anns}
-use Rattle.class_types.specs.FoundFaults.{found, wide}
+use Rattle.class_types.specs.computed.FoundFaults.{found, wide}
 use Rattle.script_rules.specs.SourceParts.{callables_all}
 use Rattle.class_types.proofs.faults.+wide.Given as goal
 

@@ -1,7 +1,7 @@
 use Rattle.std.proofs.Common.{refl}
 use Rattle.mono_syntax.specs.AnnView.{anns}
-use Rattle.class_types.specs.FoundFaults.{found}
-use Rattle.class_types.specs.Leading.{word_fault}
+use Rattle.class_types.specs.computed.FoundFaults.{found}
+use Rattle.class_types.specs.computed.Leading.{word_fault}
 use Rattle.script_rules.specs.Recursion.{names_in, names_in_all}
 use Rattle.class_types.proofs.FoundLaws.{found-next}
 use Rattle.class_types.proofs.leading.+named.Goals as goal

@@ -1,8 +1,8 @@
 use Rattle.std.proofs.Common.{◌≡◌, ◌+◌, ◌*◌, drop}
 use Rattle.mono_syntax.specs.Ann.{ann_size, anns_size}
 use Rattle.mono_syntax.specs.AnnView.{anns}
-use Rattle.class_types.specs.FoundFaults.{found}
-use Rattle.class_types.specs.Leading.{word_fault}
+use Rattle.class_types.specs.computed.FoundFaults.{found}
+use Rattle.class_types.specs.computed.Leading.{word_fault}
 use Rattle.script_rules.specs.Recursion.{names_in_all}
 use Rattle.class_types.proofs.leading.+named.Given as goal
 

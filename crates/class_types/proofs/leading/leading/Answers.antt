@@ -1,7 +1,7 @@
 use Rattle.std.proofs.Common.{◌≡◌, ◌∙◌, sym, ap, subst, map, length, ◌≤◌, arith, false, replicate}
 use Rattle.std.proofs.lemmas.List.{length-map, length-replicate}
-use Rattle.class_types.specs.Leading.{unmarked, mark_round, visit_marks}
-use Rattle.class_types.specs.Made.{names_of_classes}
+use Rattle.class_types.specs.computed.Leading.{unmarked, mark_round, visit_marks}
+use Rattle.class_types.specs.computed.Made.{names_of_classes}
 use Rattle.class_types.proofs.LeadingLaws.{AreSound, start-sound, visit-sound, visit-length, whole-sound, round-done, round-fewer, round-length, unmarked-length}
 use Rattle.class_types.proofs.leading.leading.Goals as goal
 

@@ -1,5 +1,5 @@
 use Rattle.std.proofs.Common.{◌≡◌, ◌≤◌, length, map}
-use Rattle.class_types.specs.Leading.{unmarked}
+use Rattle.class_types.specs.computed.Leading.{unmarked}
 use Rattle.class_types.proofs.LeadingLaws.{AreSound}
 use Rattle.class_types.proofs.leading.leading.Given as goal
 

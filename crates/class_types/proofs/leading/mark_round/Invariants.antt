@@ -1,5 +1,5 @@
 use Rattle.std.proofs.Common.{◌≡◌, map, drop}
-use Rattle.class_types.specs.Leading.{mark_round}
+use Rattle.class_types.specs.computed.Leading.{mark_round}
 use Rattle.class_types.proofs.leading.mark_round.Given as goal
 
 abbrev pub invariant-loop-at : goal.invariant-loop-at

@@ -1,6 +1,6 @@
 use Rattle.std.proofs.Common.{refl}
-use Rattle.class_types.specs.FoundFaults.{found}
-use Rattle.class_types.specs.Leading.{word_fault}
+use Rattle.class_types.specs.computed.FoundFaults.{found}
+use Rattle.class_types.specs.computed.Leading.{word_fault}
 use Rattle.script_rules.specs.Recursion.{names_in, field_names}
 use Rattle.class_types.proofs.FoundLaws.{found-next}
 use Rattle.class_types.proofs.leading.named_in_fields.Goals as goal

@@ -1,6 +1,6 @@
 use Rattle.std.proofs.Common.{◌≡◌, drop}
-use Rattle.class_types.specs.FoundFaults.{found}
-use Rattle.class_types.specs.Leading.{word_fault}
+use Rattle.class_types.specs.computed.FoundFaults.{found}
+use Rattle.class_types.specs.computed.Leading.{word_fault}
 use Rattle.script_rules.specs.Recursion.{field_names}
 use Rattle.class_types.proofs.leading.named_in_fields.Given as goal
 

@@ -1,5 +1,5 @@
 use Rattle.std.proofs.Common.{◌≡◌, ◌+◌, ◌≤◌, drop}
-use Rattle.class_types.specs.Leading.{unmarked}
+use Rattle.class_types.specs.computed.Leading.{unmarked}
 use Rattle.class_types.proofs.leading.unmarked.Given as goal
 
 abbrev pub invariant-loop-mark : goal.invariant-loop-mark

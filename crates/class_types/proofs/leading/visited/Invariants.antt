@@ -1,5 +1,5 @@
 use Rattle.std.proofs.Common.{◌≡◌, map, drop}
-use Rattle.class_types.specs.Leading.{visit_marks}
+use Rattle.class_types.specs.computed.Leading.{visit_marks}
 use Rattle.class_types.proofs.leading.visited.Given as goal
 
 abbrev pub invariant-loop-at : goal.invariant-loop-at

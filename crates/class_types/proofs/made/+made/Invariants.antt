@@ -3,7 +3,7 @@ use Rattle.std.specs.Prelude.{None}
 use Rattle.std.specs.Option.{option_map}
 use Rattle.mono_syntax.specs.Ann.{ann_size, anns_size}
 use Rattle.mono_syntax.specs.AnnView.{anns}
-use Rattle.class_types.specs.Made.{look, types_by}
+use Rattle.class_types.specs.computed.Made.{look, types_by}
 use Rattle.class_types.proofs.MadeTurns.{append}
 use Rattle.class_types.proofs.made.+made.Given as goal
 

@@ -1,7 +1,7 @@
 use Rattle.std.proofs.Common.{◌≡◌, drop}
 use Rattle.std.specs.Prelude.{None}
 use Rattle.std.specs.Option.{option_map}
-use Rattle.class_types.specs.Made.{look, fields_by}
+use Rattle.class_types.specs.computed.Made.{look, fields_by}
 use Rattle.class_types.proofs.MadeTurns.{append_fields}
 use Rattle.class_types.proofs.made.fields_made.Given as goal
 

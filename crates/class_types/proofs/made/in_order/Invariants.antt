@@ -1,7 +1,7 @@
 use Rattle.std.proofs.Common.{◌≡◌, length}
 use Rattle.mono_syntax.specs.TyView.{fields}
 use Rattle.script_rules.specs.Writes.{in_order}
-use Rattle.class_types.specs.Order.{order_onto}
+use Rattle.class_types.specs.computed.Order.{order_onto}
 use Rattle.class_types.proofs.made.in_order.Given as goal
 
 abbrev pub decreases-loop-field : goal.decreases-loop-field

@@ -1,5 +1,5 @@
 use Rattle.std.proofs.Common.{◌≡◌, ◌+◌, drop}
-use Rattle.class_types.specs.Order.{place_for}
+use Rattle.class_types.specs.computed.Order.{place_for}
 use Rattle.class_types.proofs.made.place_for.Given as goal
 
 abbrev pub invariant-loop-i : goal.invariant-loop-i

@@ -1,9 +1,9 @@
 use Rattle.std.proofs.Common.{◌≡◌, ◌+◌, ◌*◌, drop}
 use Rattle.mono_syntax.specs.Ann.{ann_size, anns_size}
 use Rattle.mono_syntax.specs.AnnView.{anns}
-use Rattle.class_types.specs.Made.{look}
+use Rattle.class_types.specs.computed.Made.{look}
 use Rattle.mono_tree.specs.computed.CountedSizes.{nothing}
-use Rattle.class_types.specs.Measured.{sizes_onto}
+use Rattle.class_types.specs.computed.Measured.{sizes_onto}
 use Rattle.class_types.proofs.measure.+measure.Given as goal
 
 abbrev pub decreases-size_of : goal.decreases-size_of

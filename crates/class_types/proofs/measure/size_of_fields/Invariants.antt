@@ -1,7 +1,7 @@
 use Rattle.std.proofs.Common.{◌≡◌, drop}
-use Rattle.class_types.specs.Made.{look}
+use Rattle.class_types.specs.computed.Made.{look}
 use Rattle.mono_tree.specs.computed.CountedSizes.{nothing}
-use Rattle.class_types.specs.Measured.{fields_onto}
+use Rattle.class_types.specs.computed.Measured.{fields_onto}
 use Rattle.class_types.proofs.measure.size_of_fields.Given as goal
 
 abbrev pub invariant-loop-field : goal.invariant-loop-field

@@ -1,7 +1,7 @@
 use Rattle.std.proofs.Common.{◌≡◌, drop}
-use Rattle.class_types.specs.Made.{look}
+use Rattle.class_types.specs.computed.Made.{look}
 use Rattle.mono_tree.specs.computed.CountedSizes.{nothing}
-use Rattle.class_types.specs.Measured.{params_onto}
+use Rattle.class_types.specs.computed.Measured.{params_onto}
 use Rattle.class_types.proofs.measure.size_of_params.Given as goal
 
 abbrev pub invariant-loop-param : goal.invariant-loop-param

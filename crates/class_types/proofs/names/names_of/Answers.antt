@@ -1,8 +1,8 @@
 use Rattle.std.proofs.Common.{◌≡◌, ◌∙◌, sym, ap, subst, refl, ℕ, List, [], ◌∷◌, ◌++◌, length, map, Some, None, if◌then◌else◌}
 use Rattle.std.specs.Prelude.{bytes_eq}
 use Rattle.std.specs.Option.{option_or}
-use Rattle.class_types.specs.Firsts.{first_in, AreFirsts}
-use Rattle.class_types.specs.Made.{names_of_classes}
+use Rattle.class_types.specs.computed.Firsts.{first_in, AreFirsts}
+use Rattle.class_types.specs.computed.Made.{names_of_classes}
 use Rattle.class_types.proofs.BlockLaws.{words-next}
 use Rattle.class_types.proofs.FirstLaws.{firsts-more}
 use Rattle.class_types.proofs.names.names_of.Goals as goal

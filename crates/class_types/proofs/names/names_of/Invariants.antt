@@ -1,6 +1,6 @@
 use Rattle.std.proofs.Common.{◌≡◌, ◌++◌, map, drop}
-use Rattle.class_types.specs.Firsts.{AreFirsts}
-use Rattle.class_types.specs.Made.{names_of_classes}
+use Rattle.class_types.specs.computed.Firsts.{AreFirsts}
+use Rattle.class_types.specs.computed.Made.{names_of_classes}
 use Rattle.class_types.proofs.names.names_of.Given as goal
 
 abbrev pub invariant-loop-class : goal.invariant-loop-class

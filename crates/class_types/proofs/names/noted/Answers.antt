@@ -1,6 +1,6 @@
 use Rattle.std.proofs.Common.{◌≡◌, ◌∙◌, sym, ap, subst, ℕ, List, Some, None, bytes_eq, if◌then◌else◌}
 use Rattle.std.specs.Option.{option_or}
-use Rattle.class_types.specs.Firsts.{first_in}
+use Rattle.class_types.specs.computed.Firsts.{first_in}
 use Rattle.class_types.proofs.FirstLaws.{first-noted, first-known, looked-none, looked-some}
 use Rattle.class_types.proofs.names.noted.Goals.{then-is_none+in_ok-key+in_ok-insert, else-is_none}
 use Rattle.class_types.proofs.names.noted.Goals as goal

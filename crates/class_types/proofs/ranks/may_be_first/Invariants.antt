@@ -1,5 +1,5 @@
 use Rattle.std.proofs.Common.{◌≡◌, map, drop}
-use Rattle.class_types.specs.Ranks.{may_be_first}
+use Rattle.class_types.specs.computed.Ranks.{may_be_first}
 use Rattle.class_types.proofs.ranks.may_be_first.Given as goal
 
 abbrev pub invariant-loop-word : goal.invariant-loop-word

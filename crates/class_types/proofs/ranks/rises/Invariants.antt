@@ -1,5 +1,5 @@
 use Rattle.std.proofs.Common.{◌≡◌, map, drop}
-use Rattle.class_types.specs.Ranks.{rises}
+use Rattle.class_types.specs.computed.Ranks.{rises}
 use Rattle.class_types.proofs.ranks.rises.Given as goal
 
 abbrev pub invariant-loop-word : goal.invariant-loop-word

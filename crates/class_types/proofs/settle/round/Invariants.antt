@@ -1,6 +1,6 @@
 use Rattle.std.proofs.Common.{◌≡◌, None, map, drop}
-use Rattle.class_types.specs.Made.{class_by}
-use Rattle.class_types.specs.Rounds.{round}
+use Rattle.class_types.specs.computed.Made.{class_by}
+use Rattle.class_types.specs.computed.Rounds.{round}
 use Rattle.class_types.proofs.settle.round.Given as goal
 
 abbrev pub invariant-loop-at : goal.invariant-loop-at

@@ -1,7 +1,7 @@
 use Rattle.std.proofs.Common.{◌≡◌, ◌∙◌, sym, ap, subst, length, map, None, ◌≤◌, arith}
 use Rattle.std.proofs.lemmas.List.{length-map, length-replicate}
-use Rattle.class_types.specs.Made.{look, class_by}
-use Rattle.class_types.specs.Rounds.{round, unknown}
+use Rattle.class_types.specs.computed.Made.{look, class_by}
+use Rattle.class_types.specs.computed.Rounds.{round, unknown}
 use Rattle.class_types.proofs.MadeLaws.{class-grows}
 use Rattle.class_types.proofs.RoundLaws.{IsPartial, start-partial, whole-partial, round-done, round-fewer, round-length, unknown-length}
 use Rattle.class_types.proofs.settle.settled.Goals as goal

@@ -1,6 +1,6 @@
 use Rattle.std.proofs.Common.{◌≡◌, ◌≤◌, None, length, map}
-use Rattle.class_types.specs.Made.{class_by}
-use Rattle.class_types.specs.Rounds.{unknown}
+use Rattle.class_types.specs.computed.Made.{class_by}
+use Rattle.class_types.specs.computed.Rounds.{unknown}
 use Rattle.class_types.proofs.RoundLaws.{IsPartial}
 use Rattle.class_types.proofs.settle.settled.Given as goal
 

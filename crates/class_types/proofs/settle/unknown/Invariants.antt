@@ -1,5 +1,5 @@
 use Rattle.std.proofs.Common.{◌≡◌, ◌+◌, ◌≤◌, drop}
-use Rattle.class_types.specs.Rounds.{unknown}
+use Rattle.class_types.specs.computed.Rounds.{unknown}
 use Rattle.class_types.proofs.settle.unknown.Given as goal
 
 abbrev pub invariant-loop-each : goal.invariant-loop-each

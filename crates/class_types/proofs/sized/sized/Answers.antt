@@ -1,6 +1,6 @@
 use Rattle.std.proofs.Common.{◌≡◌, ◌∙◌, sym, ap, map, length, ◌≤◌, arith, replicate, None}
 use Rattle.std.proofs.lemmas.List.{length-map}
-use Rattle.class_types.specs.Rounds.{unknown}
+use Rattle.class_types.specs.computed.Rounds.{unknown}
 use Rattle.class_types.proofs.SizedLaws.{ArePartlyMeasured, sized-start, sized-next, sized-fewer, sized-done, sized-left}
 use Rattle.class_types.proofs.sized.sized.Goals as goal
 

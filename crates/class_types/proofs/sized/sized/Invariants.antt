@@ -1,5 +1,5 @@
 use Rattle.std.proofs.Common.{◌≤◌, map}
-use Rattle.class_types.specs.Rounds.{unknown}
+use Rattle.class_types.specs.computed.Rounds.{unknown}
 use Rattle.class_types.proofs.SizedLaws.{ArePartlyMeasured}
 use Rattle.class_types.proofs.sized.sized.Given as goal
 

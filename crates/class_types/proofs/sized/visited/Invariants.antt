@@ -1,6 +1,6 @@
 use Rattle.std.proofs.Common.{◌≡◌, map, drop}
-use Rattle.class_types.specs.Measured.{class_size_by}
-use Rattle.class_types.specs.Rounds.{visited}
+use Rattle.class_types.specs.computed.Measured.{class_size_by}
+use Rattle.class_types.specs.computed.Rounds.{visited}
 use Rattle.class_types.proofs.sized.visited.Given as goal
 
 abbrev pub invariant-loop-at : goal.invariant-loop-at

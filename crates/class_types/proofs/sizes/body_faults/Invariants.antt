@@ -1,6 +1,6 @@
 use Rattle.std.proofs.Common.{◌≡◌, None, drop}
-use Rattle.class_types.specs.FoundFaults.{found, part_faults}
-use Rattle.class_types.specs.Made.{look}
+use Rattle.class_types.specs.computed.FoundFaults.{found, part_faults}
+use Rattle.class_types.specs.computed.Made.{look}
 use Rattle.script_rules.specs.SourceParts.{body_parts}
 use Rattle.class_types.proofs.sizes.body_faults.Given as goal
 

@@ -1,6 +1,6 @@
 use Rattle.std.proofs.Common.{None}
-use Rattle.class_types.specs.FoundFaults.{first_from, items_faults}
-use Rattle.class_types.specs.Made.{look}
+use Rattle.class_types.specs.computed.FoundFaults.{first_from, items_faults}
+use Rattle.class_types.specs.computed.Made.{look}
 use Rattle.class_types.proofs.FoundLaws.{items-next}
 use Rattle.class_types.proofs.sizes.items_faults.Goals as goal
 

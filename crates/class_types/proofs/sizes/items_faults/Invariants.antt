@@ -1,6 +1,6 @@
 use Rattle.std.proofs.Common.{◌≡◌, None, drop}
-use Rattle.class_types.specs.FoundFaults.{first_from, items_faults}
-use Rattle.class_types.specs.Made.{look}
+use Rattle.class_types.specs.computed.FoundFaults.{first_from, items_faults}
+use Rattle.class_types.specs.computed.Made.{look}
 use Rattle.class_types.proofs.sizes.items_faults.Given as goal
 
 abbrev pub invariant-loop-item : goal.invariant-loop-item

@@ -1,6 +1,6 @@
 use Rattle.std.proofs.Common.{refl, None}
-use Rattle.class_types.specs.FoundFaults.{found, part_faults}
-use Rattle.class_types.specs.Made.{look}
+use Rattle.class_types.specs.computed.FoundFaults.{found, part_faults}
+use Rattle.class_types.specs.computed.Made.{look}
 use Rattle.script_rules.specs.SourceParts.{any_ann, param_parts}
 use Rattle.class_types.proofs.FoundLaws.{found-next}
 use Rattle.class_types.proofs.sizes.param_faults.Goals as goal

@@ -2,9 +2,9 @@ use Rattle.std.proofs.Common.{◌≡◌, ◌∙◌, sym, ap, subst, None, []}
 use Rattle.std.specs.Prelude.{slice_get}
 use Rattle.script_rules.specs.Definitions.{classes_of, statements_of}
 use Rattle.script_rules.specs.Scoping.{class_list}
-use Rattle.class_types.specs.FoundFaults.{first_from, items_faults, name_fault, script_faults}
-use Rattle.class_types.specs.Made.{look, names_of_classes}
-use Rattle.class_types.specs.Measured.{AreMeasured}
+use Rattle.class_types.specs.computed.FoundFaults.{first_from, items_faults, name_fault, script_faults}
+use Rattle.class_types.specs.computed.Made.{look, names_of_classes}
+use Rattle.class_types.specs.computed.Measured.{AreMeasured}
 use Rattle.script_rules.specs.SourceParts.{block_names}
 use Rattle.class_types.proofs.FoundLaws.{first-append, if_ok}
 use Rattle.class_types.proofs.SizeFaultLaws.{first-fault}

@@ -4,7 +4,7 @@ use Rattle.script_rules.specs.Definitions.{classes_of}
 use Rattle.script_rules.specs.Scoping.{class_list}
 use Rattle.mono_tree.specs.ClosedList.{AreDistinct, base_types}
 use Rattle.class_types.specs.Known.{Begins}
-use Rattle.class_types.specs.Made.{AreOwnTypes, names_of_classes}
+use Rattle.class_types.specs.computed.Made.{AreOwnTypes, names_of_classes}
 use Rattle.class_types.specs.Placed.{StandAt}
 use Rattle.class_types.proofs.TableLaws.{all-stand, none-stands, take-some, take-none, holds-table}
 use Rattle.class_types.proofs.table.class_types.Goals as goal

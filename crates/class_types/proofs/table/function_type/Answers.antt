@@ -1,6 +1,6 @@
 use Rattle.std.proofs.Common.{◌≡◌, ◌∙◌, sym, ap}
 use Rattle.std.specs.Prelude.{None}
-use Rattle.class_types.specs.Made.{look, function_by}
+use Rattle.class_types.specs.computed.Made.{look, function_by}
 use Rattle.class_types.proofs.TableLaws.{function-made, function-writes, no-type}
 use Rattle.class_types.proofs.table.function_type.Goals as goal
 

@@ -1,6 +1,6 @@
 use Rattle.std.proofs.Common.{◌≡◌, ◌∙◌, sym, ap}
 use Rattle.std.specs.Prelude.{None}
-use Rattle.class_types.specs.Made.{look, type_by}
+use Rattle.class_types.specs.computed.Made.{look, type_by}
 use Rattle.class_types.proofs.TableLaws.{ann-made, ann-writes, no-type}
 use Rattle.class_types.proofs.table.written.Goals as goal
 

@@ -1,6 +1,6 @@
 use Rattle.std.proofs.Common.{◌≡◌, ◌∙◌, sym, ap}
 use Rattle.std.specs.Prelude.{None}
-use Rattle.class_types.specs.Made.{look, any_by}
+use Rattle.class_types.specs.computed.Made.{look, any_by}
 use Rattle.class_types.proofs.TableLaws.{any-made, any-writes, no-type}
 use Rattle.class_types.proofs.table.written_any.Goals as goal
 

@@ -1,8 +1,8 @@
 use Rattle.std.proofs.Common.{◌≡◌, ◌+◌, ◌*◌, None, drop}
 use Rattle.mono_syntax.specs.Expr.{expr_size, exprs_size}
 use Rattle.mono_syntax.specs.ExprView.{exprs}
-use Rattle.class_types.specs.FoundFaults.{found, part_faults}
-use Rattle.class_types.specs.Made.{look}
+use Rattle.class_types.specs.computed.FoundFaults.{found, part_faults}
+use Rattle.class_types.specs.computed.Made.{look}
 use Rattle.script_rules.specs.SourceParts.{exprs_parts}
 use Rattle.class_types.proofs.walk.+exprs.Given as goal
 

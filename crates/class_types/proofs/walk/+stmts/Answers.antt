@@ -1,7 +1,7 @@
 use Rattle.std.proofs.Common.{refl, ◌++◌, None}
 use Rattle.mono_syntax.specs.StmtView.{block, branches}
-use Rattle.class_types.specs.FoundFaults.{found, part_faults}
-use Rattle.class_types.specs.Made.{look}
+use Rattle.class_types.specs.computed.FoundFaults.{found, part_faults}
+use Rattle.class_types.specs.computed.Made.{look}
 use Rattle.script_rules.specs.SourceParts.{expr_parts, stmt_parts, block_parts, branch_parts}
 use Rattle.class_types.proofs.FoundLaws.{found-next}
 use Rattle.class_types.proofs.walk.+stmts.Goals as goal

@@ -1,8 +1,8 @@
 use Rattle.std.proofs.Common.{◌≡◌, ◌+◌, ◌*◌, None, drop}
 use Rattle.mono_syntax.specs.Stmt.{stmt_size, block_size, branches_size, else_size}
 use Rattle.mono_syntax.specs.StmtView.{block, branches, else_block}
-use Rattle.class_types.specs.FoundFaults.{found, part_faults}
-use Rattle.class_types.specs.Made.{look}
+use Rattle.class_types.specs.computed.FoundFaults.{found, part_faults}
+use Rattle.class_types.specs.computed.Made.{look}
 use Rattle.script_rules.specs.SourceParts.{block_parts, branch_parts}
 use Rattle.class_types.proofs.walk.+stmts.Given as goal
 

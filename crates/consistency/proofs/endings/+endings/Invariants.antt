@@ -2,7 +2,7 @@ use Rattle.std.proofs.Common.{◌≡◌, ◌+◌, ◌*◌, drop}
 use Rattle.mono_syntax.specs.Stmt.{stmt_size, block_size, branches_size, else_size}
 use Rattle.mono_syntax.specs.StmtView.{block, branches, else_block}
 use Rattle.static_types.specs.BodyEnds.{may_end, branches_may_end}
-use Rattle.consistency.specs.Scripted.{ends_behind}
+use Rattle.consistency.specs.computed.Scripted.{ends_behind}
 use Rattle.consistency.proofs.endings.+endings.Given as goal
 
 abbrev pub decreases-statement_may_end : goal.decreases-statement_may_end

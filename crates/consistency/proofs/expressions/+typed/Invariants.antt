@@ -1,7 +1,7 @@
 use Rattle.std.proofs.Common.{◌≡◌, ◌+◌, ◌*◌, drop}
 use Rattle.mono_syntax.specs.Expr.{expr_size, exprs_size}
 use Rattle.mono_syntax.specs.ExprView.{exprs}
-use Rattle.consistency.specs.Checked.{all_typed}
+use Rattle.consistency.specs.computed.Checked.{all_typed}
 use Rattle.consistency.proofs.expressions.+typed.Given as goal
 
 abbrev pub decreases-typed : goal.decreases-typed

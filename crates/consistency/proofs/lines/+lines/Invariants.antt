@@ -1,7 +1,7 @@
 use Rattle.std.proofs.Common.{◌≡◌, ◌+◌, ◌*◌, drop}
 use Rattle.mono_syntax.specs.Stmt.{stmt_size, block_size, branches_size, else_size}
 use Rattle.mono_syntax.specs.StmtView.{block, branches, else_block}
-use Rattle.consistency.specs.Lined.{block_typed, branches_typed}
+use Rattle.consistency.specs.computed.Lined.{block_typed, branches_typed}
 use Rattle.consistency.proofs.lines.+lines.Given as goal
 
 abbrev pub decreases-line_typed : goal.decreases-line_typed

@@ -1,5 +1,5 @@
 use Rattle.std.proofs.Common.{◌≡◌, drop}
-use Rattle.consistency.specs.Ruled.{are_dyn}
+use Rattle.consistency.specs.computed.Ruled.{are_dyn}
 use Rattle.consistency.proofs.parts.are_dyn.Given as goal
 
 abbrev pub invariant-loop-part : goal.invariant-loop-part

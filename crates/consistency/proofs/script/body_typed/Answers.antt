@@ -1,10 +1,10 @@
 use Rattle.std.proofs.Common.{List, Err, subst}
 use Rattle.mono_syntax.specs.Stmt.{Stmt}
 use Rattle.mono_syntax.specs.StmtView.{block}
-use Rattle.known_names.specs.Gives.{Gives}
+use Rattle.known_names.specs.computed.Gives.{Gives}
 use Rattle.consistency.specs.declared.lines.State.{State}
-use Rattle.consistency.specs.Lined.{block_typed}
-use Rattle.consistency.specs.Scripted.{function_end}
+use Rattle.consistency.specs.computed.Lined.{block_typed}
+use Rattle.consistency.specs.computed.Scripted.{function_end}
 use Rattle.consistency.proofs.Matched.{stopped}
 use Rattle.consistency.proofs.script.body_typed.Goals as goal
 

@@ -1,5 +1,5 @@
 use Rattle.std.proofs.Common.{◌≡◌, drop}
-use Rattle.consistency.specs.Scripted.{items_typed}
+use Rattle.consistency.specs.computed.Scripted.{items_typed}
 use Rattle.consistency.proofs.script.items_typed.Given as goal
 
 abbrev pub invariant-loop-item : goal.invariant-loop-item

@@ -1,7 +1,7 @@
 use Rattle.std.proofs.Common.{◌≡◌, ◌+◌, ◌*◌, [], drop}
 use Rattle.mono_syntax.specs.Ann.{ann_size, anns_size}
 use Rattle.mono_syntax.specs.AnnView.{anns}
-use Rattle.known_names.specs.Annotations.{written_all}
+use Rattle.known_names.specs.computed.Annotations.{written_all}
 use Rattle.known_names.proofs.annotations.+written.Given as goal
 
 abbrev pub decreases-written : goal.decreases-written

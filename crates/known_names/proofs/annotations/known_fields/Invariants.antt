@@ -1,5 +1,5 @@
 use Rattle.std.proofs.Common.{◌≡◌, take}
-use Rattle.known_names.specs.Annotations.{known_fields}
+use Rattle.known_names.specs.computed.Annotations.{known_fields}
 use Rattle.known_names.proofs.annotations.known_fields.Given as goal
 
 abbrev pub invariant-loop-field : goal.invariant-loop-field

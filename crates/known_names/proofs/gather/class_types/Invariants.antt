@@ -1,5 +1,5 @@
 use Rattle.std.proofs.Common.{◌≡◌, [], drop}
-use Rattle.known_names.specs.Gathered.{class_types}
+use Rattle.known_names.specs.computed.Gathered.{class_types}
 use Rattle.known_names.proofs.gather.class_types.Given as goal
 
 abbrev pub invariant-loop-item : goal.invariant-loop-item

@@ -1,5 +1,5 @@
 use Rattle.std.proofs.Common.{◌≡◌, [], drop}
-use Rattle.known_names.specs.Gathered.{classes_from}
+use Rattle.known_names.specs.computed.Gathered.{classes_from}
 use Rattle.known_names.proofs.gather.classes.Given as goal
 
 abbrev pub invariant-loop-item : goal.invariant-loop-item

@@ -1,5 +1,5 @@
 use Rattle.std.proofs.Common.{Some}
-use Rattle.known_names.specs.Gathered.{declared_result, local_at}
+use Rattle.known_names.specs.computed.Gathered.{declared_result, local_at}
 use Rattle.known_names.specs.IsKnown.{IsFunctionLocal}
 use Rattle.known_names.proofs.KnownLaws.{function_local}
 use Rattle.known_names.proofs.Steps.{ok_so}

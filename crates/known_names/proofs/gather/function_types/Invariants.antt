@@ -1,5 +1,5 @@
 use Rattle.std.proofs.Common.{◌≡◌, [], drop}
-use Rattle.known_names.specs.Gathered.{function_types}
+use Rattle.known_names.specs.computed.Gathered.{function_types}
 use Rattle.known_names.proofs.gather.function_types.Given as goal
 
 abbrev pub invariant-loop-item : goal.invariant-loop-item

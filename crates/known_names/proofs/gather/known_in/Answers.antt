@@ -1,7 +1,7 @@
 use Rattle.std.proofs.Common.{◌≡◌, [], List, IfOk, refl, ◌∙◌, subst}
 use Rattle.mono_syntax.specs.declared.cast.NamedType.{NamedType}
 use Rattle.script_rules.specs.Scoping.{class_list, function_list}
-use Rattle.known_names.specs.Gathered.{class_types, known_with, known_in}
+use Rattle.known_names.specs.computed.Gathered.{class_types, known_with, known_in}
 use Rattle.known_names.specs.IsKnown.{IsKnown}
 use Rattle.known_names.proofs.KnownLaws.{known_found}
 use Rattle.known_names.proofs.Steps.{ok_so}

@@ -1,6 +1,6 @@
 use Rattle.std.proofs.Common.{length}
 use Rattle.std.specs.Prelude.{None}
-use Rattle.known_names.specs.Gathered.{local_at}
+use Rattle.known_names.specs.computed.Gathered.{local_at}
 use Rattle.known_names.specs.IsKnown.{IsMainLocal}
 use Rattle.known_names.proofs.KnownLaws.{main_local}
 use Rattle.known_names.proofs.Steps.{ok_so}

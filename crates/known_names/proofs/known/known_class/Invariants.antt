@@ -1,5 +1,5 @@
 use Rattle.std.proofs.Common.{◌≡◌, drop}
-use Rattle.known_names.specs.KnownNames.{known_class}
+use Rattle.known_names.specs.computed.KnownNames.{known_class}
 use Rattle.known_names.proofs.known.known_class.Given as goal
 
 abbrev pub invariant-loop-class : goal.invariant-loop-class

@@ -1,5 +1,5 @@
 use Rattle.std.proofs.Common.{◌≡◌, drop}
-use Rattle.known_names.specs.TypeList.{position_from}
+use Rattle.known_names.specs.computed.TypeList.{position_from}
 use Rattle.known_names.proofs.types.position_in.Given as goal
 
 abbrev pub invariant-loop-i : goal.invariant-loop-i

@@ -3,7 +3,7 @@ use Rattle.mono_syntax.specs.declared.tree.FuncDef.{FuncDef}
 use Rattle.mono_syntax.specs.declared.tree.Script.{Script}
 use Rattle.script_rules.specs.Definitions.{functions_of}
 use Rattle.script_rules.specs.Scoping.{class_list}
-use Rattle.name_scope.specs.Typing.{AreTypable, FunctionsTyped}
+use Rattle.name_scope.specs.computed.Typing.{AreTypable, FunctionsTyped}
 use Rattle.name_scope.proofs.TypedFunctionLaws.{functions_done, functions_left}
 use Rattle.name_scope.proofs.blocks.typed_functions.Goals as goal
 

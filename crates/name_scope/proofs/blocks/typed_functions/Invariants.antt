@@ -1,7 +1,7 @@
 use Rattle.std.proofs.Common.{take, drop}
 use Rattle.script_rules.specs.Definitions.{functions_of}
 use Rattle.script_rules.specs.Scoping.{class_list}
-use Rattle.name_scope.specs.Typing.{AreTypable, FunctionsTyped}
+use Rattle.name_scope.specs.computed.Typing.{AreTypable, FunctionsTyped}
 use Rattle.name_scope.proofs.blocks.typed_functions.Given as goal
 
 abbrev pub invariant-loop-item : goal.invariant-loop-item

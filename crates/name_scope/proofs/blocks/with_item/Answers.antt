@@ -3,7 +3,7 @@ use Rattle.mono_syntax.specs.declared.tree.FuncDef.{FuncDef}
 use Rattle.mono_syntax.specs.declared.tree.Item.{Item}
 use Rattle.script_rules.specs.Definitions.{functions_of}
 use Rattle.class_types.specs.declared.table.ClassTypes.{ClassTypes}
-use Rattle.name_scope.specs.Typing.{FunctionsTyped}
+use Rattle.name_scope.specs.computed.Typing.{FunctionsTyped}
 use Rattle.name_scope.proofs.blocks.with_item.Goals as goal
 
 pub returns-in-Def : goal.returns-in-Def

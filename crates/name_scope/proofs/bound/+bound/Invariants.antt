@@ -3,7 +3,7 @@ use Rattle.std.specs.Prelude.{map}
 use Rattle.mono_syntax.specs.Stmt.{stmt_size, block_size, branches_size, else_size}
 use Rattle.mono_syntax.specs.StmtView.{block, branches, else_block}
 use Rattle.script_rules.specs.BlockNames.{block_targets, branch_targets, block_starts, branch_starts}
-use Rattle.name_scope.specs.Bound.{target_of, text_of}
+use Rattle.name_scope.specs.computed.Bound.{target_of, text_of}
 use Rattle.name_scope.proofs.bound.+bound.Given as goal
 
 abbrev pub decreases-put_bound : goal.decreases-put_bound

@@ -2,7 +2,7 @@ use Rattle.std.proofs.Common.{◌≡◌, ◌++◌, drop}
 use Rattle.std.specs.Prelude.{map, flat_map}
 use Rattle.script_rules.specs.BlockNames.{targets, starts}
 use Rattle.script_rules.specs.Definitions.{statements_of}
-use Rattle.name_scope.specs.Bound.{target_of, text_of}
+use Rattle.name_scope.specs.computed.Bound.{target_of, text_of}
 use Rattle.name_scope.proofs.bound.main_bound.Given as goal
 
 -- what is put, and what is left behind it

@@ -1,7 +1,7 @@
 use Rattle.std.proofs.Common.{◌≡◌, ◌++◌, drop}
 use Rattle.std.specs.Prelude.{map}
 use Rattle.script_rules.specs.BlockNames.{of_param}
-use Rattle.name_scope.specs.Bound.{target_of}
+use Rattle.name_scope.specs.computed.Bound.{target_of}
 use Rattle.name_scope.proofs.bound.put_params.Given as goal
 
 -- what is put, and what is left behind it

@@ -1,6 +1,6 @@
 use Rattle.std.proofs.Common.{◌∙◌}
-use Rattle.name_scope.specs.NameRoles.{roles_of}
-use Rattle.name_scope.specs.Table.{roles_in}
+use Rattle.name_scope.specs.computed.NameRoles.{roles_of}
+use Rattle.name_scope.specs.computed.Table.{roles_in}
 use Rattle.name_scope.proofs.Tables.{noted_more}
 use Rattle.name_scope.proofs.FirstOfAll.{one_taken}
 use Rattle.name_scope.proofs.faults.check_body.Goals as goal

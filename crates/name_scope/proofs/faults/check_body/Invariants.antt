@@ -1,7 +1,7 @@
 use Rattle.std.proofs.Common.{◌≡◌, ℕ, List, take, drop}
-use Rattle.name_scope.specs.NameRoles.{roles_of}
-use Rattle.name_scope.specs.FoundFaults.{faults_behind, body_faults, first_of_all}
-use Rattle.name_scope.specs.Table.{roles_in}
+use Rattle.name_scope.specs.computed.NameRoles.{roles_of}
+use Rattle.name_scope.specs.computed.FoundFaults.{faults_behind, body_faults, first_of_all}
+use Rattle.name_scope.specs.computed.Table.{roles_in}
 use Rattle.name_scope.proofs.faults.check_body.Given as goal
 
 -- the faults that are left, behind those that were taken in

@@ -1,6 +1,6 @@
 use Rattle.std.proofs.Common.{◌∙◌}
-use Rattle.name_scope.specs.FoundFaults.{body_faults}
-use Rattle.name_scope.specs.Table.{roles_in}
+use Rattle.name_scope.specs.computed.FoundFaults.{body_faults}
+use Rattle.name_scope.specs.computed.Table.{roles_in}
 use Rattle.name_scope.proofs.FirstOfAll.{item_taken}
 use Rattle.name_scope.proofs.faults.check_items.Goals as goal
 

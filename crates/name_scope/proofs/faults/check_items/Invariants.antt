@@ -1,8 +1,8 @@
 use Rattle.std.proofs.Common.{◌≡◌, drop}
 use Rattle.std.specs.Prelude.{flat_map}
 use Rattle.script_rules.specs.Occurrences.{body_of}
-use Rattle.name_scope.specs.FoundFaults.{body_faults, first_of_all}
-use Rattle.name_scope.specs.Table.{roles_in}
+use Rattle.name_scope.specs.computed.FoundFaults.{body_faults, first_of_all}
+use Rattle.name_scope.specs.computed.Table.{roles_in}
 use Rattle.name_scope.proofs.faults.check_items.Given as goal
 
 -- the faults that are left, behind those that were taken in

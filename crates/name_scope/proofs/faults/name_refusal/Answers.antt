@@ -1,5 +1,5 @@
 use Rattle.std.proofs.Common.{◌∙◌}
-use Rattle.name_scope.specs.Table.{roles_in}
+use Rattle.name_scope.specs.computed.Table.{roles_in}
 use Rattle.name_scope.proofs.NameFaultLaws.{name_answer}
 use Rattle.name_scope.proofs.faults.name_refusal.Goals as goal
 

@@ -1,4 +1,4 @@
-use Rattle.name_scope.specs.Table.{roles_in}
+use Rattle.name_scope.specs.computed.Table.{roles_in}
 use Rattle.name_scope.proofs.Tables.{noted_more}
 use Rattle.name_scope.proofs.table.table_of.Goals as goal
 

@@ -1,6 +1,6 @@
 use Rattle.std.proofs.Common.{◌≡◌, ℕ, List, take}
-use Rattle.name_scope.specs.NameRoles.{roles_of}
-use Rattle.name_scope.specs.Table.{roles_in}
+use Rattle.name_scope.specs.computed.NameRoles.{roles_of}
+use Rattle.name_scope.specs.computed.Table.{roles_in}
 use Rattle.name_scope.proofs.table.table_of.Given as goal
 
 abbrev pub invariant-loop-o : goal.invariant-loop-o

@@ -7,8 +7,8 @@ use Rattle.script_rules.specs.BlockNames.{Target}
 use Rattle.script_rules.specs.Scoping.{class_list, NamesStand}
 use Rattle.script_rules.specs.Writes.{WritesAny}
 use Rattle.name_scope.specs.declared.roles.Roles.{Roles}
-use Rattle.name_scope.specs.Bound.{target_of}
-use Rattle.name_scope.specs.Typing.{EachWrites, NamesTyped}
+use Rattle.name_scope.specs.computed.Bound.{target_of}
+use Rattle.name_scope.specs.computed.Typing.{EachWrites, NamesTyped}
 use Rattle.name_scope.proofs.Growth.{extends_refl}
 use Rattle.name_scope.proofs.TypedNameLaws.{targets_at, targets_done}
 use Rattle.name_scope.proofs.typing.typed_names.Goals as goal

@@ -1,8 +1,8 @@
 use Rattle.std.proofs.Common.{take, drop}
 use Rattle.std.specs.Prelude.{map}
 use Rattle.script_rules.specs.Scoping.{class_list}
-use Rattle.name_scope.specs.Bound.{target_of}
-use Rattle.name_scope.specs.Typing.{EachWrites, NamesTyped}
+use Rattle.name_scope.specs.computed.Bound.{target_of}
+use Rattle.name_scope.specs.computed.Typing.{EachWrites, NamesTyped}
 use Rattle.name_scope.proofs.typing.typed_names.Given as goal
 
 abbrev pub invariant-loop-t : goal.invariant-loop-t

@@ -1,9 +1,9 @@
 use Rattle.std.proofs.Common.{◌≡◌, ℕ, List, cond, subst}
 use Rattle.std.specs.Prelude.{bytes_eq}
 use Rattle.script_rules.specs.declared.occurrence.Occurrence.{Occurrence}
-use Rattle.name_scope.specs.Bound.{target_of}
-use Rattle.name_scope.specs.NameRoles.{alone, together}
-use Rattle.name_scope.specs.Table.{roles_in}
+use Rattle.name_scope.specs.computed.Bound.{target_of}
+use Rattle.name_scope.specs.computed.NameRoles.{alone, together}
+use Rattle.name_scope.specs.computed.Table.{roles_in}
 use Rattle.name_scope.proofs.TypedNameLaws.{seen_again, one_more_name}
 use Rattle.name_scope.proofs.typing.with_target.Goals as goal
 

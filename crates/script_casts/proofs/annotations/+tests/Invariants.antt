@@ -1,7 +1,7 @@
 use Rattle.std.proofs.Common.{◌≡◌, ◌+◌, ◌*◌, drop}
 use Rattle.mono_syntax.specs.Ann.{ann_size, anns_size}
 use Rattle.mono_syntax.specs.AnnView.{anns}
-use Rattle.script_casts.specs.Annotations.{are_written}
+use Rattle.script_casts.specs.computed.Annotations.{are_written}
 use Rattle.script_casts.proofs.annotations.+tests.Given as goal
 
 abbrev pub decreases-is_written : goal.decreases-is_written

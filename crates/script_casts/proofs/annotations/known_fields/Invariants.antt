@@ -1,5 +1,5 @@
 use Rattle.std.proofs.Common.{◌≡◌, [], drop}
-use Rattle.script_casts.specs.Annotations.{known_fields}
+use Rattle.script_casts.specs.computed.Annotations.{known_fields}
 use Rattle.script_casts.proofs.annotations.known_fields.Given as goal
 
 abbrev pub invariant-loop-field : goal.invariant-loop-field

@@ -1,7 +1,7 @@
 use Rattle.std.proofs.Common.{◌≡◌, ◌+◌, ◌*◌, drop}
 use Rattle.mono_syntax.specs.Stmt.{stmt_size, block_size, branches_size, else_size}
 use Rattle.mono_syntax.specs.StmtView.{block, branches, else_block}
-use Rattle.script_casts.specs.Lines.{begun, unbranched, block_from, branches_from}
+use Rattle.script_casts.specs.computed.Lines.{begun, unbranched, block_from, branches_from}
 use Rattle.script_casts.proofs.blocks.+lines.Given as goal
 
 abbrev pub decreases-line_of : goal.decreases-line_of

@@ -1,5 +1,5 @@
 use Rattle.std.proofs.Common.{◌≡◌, drop}
-use Rattle.script_casts.specs.Lines.{lines_from}
+use Rattle.script_casts.specs.computed.Lines.{lines_from}
 use Rattle.script_casts.proofs.blocks.all_lines.Given as goal
 
 abbrev pub invariant-loop-item : goal.invariant-loop-item

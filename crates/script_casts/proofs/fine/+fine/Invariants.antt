@@ -1,7 +1,7 @@
 use Rattle.std.proofs.Common.{◌≡◌, ◌+◌, ◌*◌, drop}
 use Rattle.mono_syntax.specs.Expr.{expr_size, exprs_size}
 use Rattle.mono_syntax.specs.ExprView.{exprs}
-use Rattle.script_casts.specs.Fine.{are_fine}
+use Rattle.script_casts.specs.computed.Fine.{are_fine}
 use Rattle.script_casts.proofs.fine.+fine.Given as goal
 
 abbrev pub decreases-is_fine : goal.decreases-is_fine

@@ -1,7 +1,7 @@
 use Rattle.std.proofs.Common.{◌≡◌, ◌+◌, ◌*◌, drop}
 use Rattle.mono_syntax.specs.Stmt.{stmt_size, block_size, branches_size, else_size}
 use Rattle.mono_syntax.specs.StmtView.{block, branches, else_block}
-use Rattle.script_casts.specs.Fine.{are_fine_lines, are_fine_branches}
+use Rattle.script_casts.specs.computed.Fine.{are_fine_lines, are_fine_branches}
 use Rattle.script_casts.proofs.fine.+fine_lines.Given as goal
 
 abbrev pub decreases-is_fine_line : goal.decreases-is_fine_line

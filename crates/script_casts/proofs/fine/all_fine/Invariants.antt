@@ -1,5 +1,5 @@
 use Rattle.std.proofs.Common.{◌≡◌, drop}
-use Rattle.script_casts.specs.Fine.{all_fine}
+use Rattle.script_casts.specs.computed.Fine.{all_fine}
 use Rattle.script_casts.proofs.fine.all_fine.Given as goal
 
 abbrev pub invariant-loop-item : goal.invariant-loop-item

@@ -1,7 +1,7 @@
 use Rattle.std.proofs.Common.{◌≡◌, ◌+◌, ◌*◌, [], drop}
 use Rattle.mono_syntax.specs.Expr.{expr_size, exprs_size}
 use Rattle.mono_syntax.specs.ExprView.{exprs}
-use Rattle.script_casts.specs.Inserted.{inserted_all}
+use Rattle.script_casts.specs.computed.Inserted.{inserted_all}
 use Rattle.script_casts.proofs.inserting.+inserted.Given as goal
 
 abbrev pub decreases-inserted : goal.decreases-inserted

@@ -1,5 +1,5 @@
 use Rattle.std.proofs.Common.{◌≡◌, [], drop}
-use Rattle.script_casts.specs.KnownNames.{class_types}
+use Rattle.script_casts.specs.computed.KnownNames.{class_types}
 use Rattle.script_casts.proofs.known.class_types.Given as goal
 
 abbrev pub invariant-loop-item : goal.invariant-loop-item

@@ -1,5 +1,5 @@
 use Rattle.std.proofs.Common.{◌≡◌, [], drop}
-use Rattle.script_casts.specs.KnownNames.{classes_from}
+use Rattle.script_casts.specs.computed.KnownNames.{classes_from}
 use Rattle.script_casts.proofs.known.classes.Given as goal
 
 abbrev pub invariant-loop-item : goal.invariant-loop-item

@@ -1,5 +1,5 @@
 use Rattle.std.proofs.Common.{◌≡◌, drop}
-use Rattle.script_casts.specs.KnownNames.{known_class}
+use Rattle.script_casts.specs.computed.KnownNames.{known_class}
 use Rattle.script_casts.proofs.known.known_class.Given as goal
 
 abbrev pub invariant-loop-class : goal.invariant-loop-class

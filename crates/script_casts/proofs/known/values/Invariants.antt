@@ -1,5 +1,5 @@
 use Rattle.std.proofs.Common.{◌≡◌, [], drop}
-use Rattle.script_casts.specs.KnownNames.{values_from}
+use Rattle.script_casts.specs.computed.KnownNames.{values_from}
 use Rattle.script_casts.proofs.known.values.Given as goal
 
 abbrev pub invariant-loop-named : goal.invariant-loop-named

@@ -1,7 +1,7 @@
 use Rattle.std.proofs.Common.{◌≡◌}
 use Rattle.std.specs.Slice.Iter.{iter_rest}
 use Rattle.std.specs.Iterator.Adapters.{zip_first, zip_second}
-use Rattle.script_casts.specs.Inserted.{used_from}
+use Rattle.script_casts.specs.computed.Inserted.{used_from}
 use Rattle.script_casts.proofs.objects.all_used.Given as goal
 
 abbrev pub invariant-loop-part : goal.invariant-loop-part

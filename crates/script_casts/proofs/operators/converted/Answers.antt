@@ -1,5 +1,5 @@
 use Rattle.std.proofs.Common.{◌≡◌, false}
-use Rattle.script_casts.specs.OperatorTests.{is_dyn_sum}
+use Rattle.script_casts.specs.computed.OperatorTests.{is_dyn_sum}
 use Rattle.script_casts.proofs.OperatorChoice.{not_summed}
 use Rattle.script_casts.proofs.operators.converted.Goals as goal
 

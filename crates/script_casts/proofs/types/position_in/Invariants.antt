@@ -1,5 +1,5 @@
 use Rattle.std.proofs.Common.{◌≡◌, drop}
-use Rattle.script_casts.specs.TypeList.{position_from}
+use Rattle.script_casts.specs.computed.TypeList.{position_from}
 use Rattle.script_casts.proofs.types.position_in.Given as goal
 
 abbrev pub invariant-loop-i : goal.invariant-loop-i

@@ -1,7 +1,7 @@
 use Rattle.std.proofs.Common.{◌≡◌, ◌∙◌, sym, ap, Some}
 use Rattle.std.specs.Option.{option_copied}
-use Rattle.class_types.specs.Firsts.{first_in}
-use Rattle.class_types.specs.Made.{place_in}
+use Rattle.class_types.specs.computed.Firsts.{first_in}
+use Rattle.class_types.specs.computed.Made.{place_in}
 use Rattle.class_types.proofs.FirstLaws.{place-within}
 use Rattle.class_types.proofs.names.ClassNames.place.Goals as goal
 

@@ -1,7 +1,7 @@
 use Rattle.std.proofs.Common.{◌≡◌, ℕ, List, cond, subst}
 use Rattle.std.specs.Prelude.{bytes_eq}
-use Rattle.name_scope.specs.NameRoles.{alone, together}
-use Rattle.name_scope.specs.Table.{roles_in}
+use Rattle.name_scope.specs.computed.NameRoles.{alone, together}
+use Rattle.name_scope.specs.computed.Table.{roles_in}
 use Rattle.name_scope.proofs.Tables.{noted_in}
 use Rattle.name_scope.proofs.table.NameTable.note.Goals as goal
 

@@ -1,0 +1,9 @@
+pub mod Made
+pub mod Firsts
+pub mod Rounds
+pub mod Order
+pub mod NewNames
+pub mod FoundFaults
+pub mod Leading
+pub mod Measured
+pub mod Ranks

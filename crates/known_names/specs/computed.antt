@@ -1,0 +1,5 @@
+pub mod TypeList
+pub mod Annotations
+pub mod KnownNames
+pub mod Gathered
+pub mod Gives
