@@ -10,7 +10,9 @@ ghost use Rattle.calculus_data.specs.computed.Entries.{entering, call_of, functi
 use calculus_data::{Heap, blames, copy_val, fails, goes, members_of, push_leaving, puts, size};
 use cast_machine::{Cell, Change, End, Frame, NameMap, Object, Outcome, State, Thread, Work};
 use mono_list::{Shared, Stack};
-use mono_syntax::{CastFunction, CastScript, Field, Name, NamedType, Ty, TyKind, Val, MOST_THREADS};
+use mono_syntax::{
+    CastFunction, CastScript, Field, MOST_THREADS, Name, NamedType, Ty, TyKind, Val,
+};
 use sqlite_items::Items;
 use std::alloc::{AllocError, Global};
 

@@ -12,8 +12,9 @@ use calculus_data::{
 use cast_machine::{Change, End, Frame, Operated, Outcome, State, Work};
 use mono_list::{Shared, Stack};
 use mono_syntax::{
-    Arg, CastBranch, CastExpr, CastExprKind, CastScript, CastStmt, CastStmtKind, Name, Op,
-    StmtList, Val, GREATEST_INTEGER};
+    Arg, CastBranch, CastExpr, CastExprKind, CastScript, CastStmt, CastStmtKind, GREATEST_INTEGER,
+    Name, Op, StmtList, Val,
+};
 use sqlite_items::Items;
 use std::alloc::{AllocError, Global};
 

@@ -17,8 +17,8 @@ use crate::settle::classes_of;
 use crate::sized::sized;
 use crate::walk::{any_ann_faults, stmt_faults};
 use mono_syntax::{
-    ClassDef, FieldDef, FuncDef, Item, MOST_FIELDS, MOST_PARAMETERS, Param, Reason, Refusal, Script,
-    Stmt,
+    ClassDef, FieldDef, FuncDef, Item, MOST_FIELDS, MOST_PARAMETERS, Param, Reason, Refusal,
+    Script, Stmt,
 };
 use std::alloc::{AllocError, Global};
 

@@ -17,7 +17,13 @@ use sqlite_items::Items;
 fn many_arguments(so_far: Option<Refusal>, place: Place, list: &[Expr]) -> Option<Refusal>
     ensures { result ≡ first_from so_far (count_fault TooManyArguments most_arguments (record { place = place; count = length list.now })) }
 {
-    count_fault(so_far, Reason::TooManyArguments, MOST_ARGUMENTS, place, list.len())
+    count_fault(
+        so_far,
+        Reason::TooManyArguments,
+        MOST_ARGUMENTS,
+        place,
+        list.len(),
+    )
 }
 
 /// The faults in an expression: of the types of its casts, and of its lists of arguments.

@@ -4,9 +4,9 @@ ghost use Rattle.script_rules.specs.Definitions.{statements_of};
 ghost use Rattle.script_rules.specs.Occurrences.{in_param, in_function, in_field, in_class, defined_by, in_block};
 
 use crate::collect::{put_ann, put_any_ann, put_word};
-use script_rules::{Occurrence, Role};
 use crate::statements::{put_block, put_stmt};
 use mono_syntax::{ClassDef, FieldDef, FuncDef, Item, Param};
+use script_rules::{Occurrence, Role};
 use sqlite_items::Items;
 use std::alloc::{AllocError, Global};
 

@@ -4,8 +4,8 @@ ghost use Rattle.mono_syntax.specs.ExprView.{exprs};
 ghost use Rattle.mono_syntax.specs.StmtView.{block, branches, else_block};
 ghost use Rattle.script_rules.specs.Occurrences.{at, in_ann, in_anns, in_any_ann, in_expr, in_exprs, in_any_expr, in_target, in_stmt, in_block, in_branches, in_else, in_param};
 
-use script_rules::{Occurrence, Role};
 use mono_syntax::{Ann, AnnForm, Branch, Expr, ExprKind, Param, Stmt, StmtKind, Word};
+use script_rules::{Occurrence, Role};
 use sqlite_items::Items;
 use std::alloc::AllocError;
 

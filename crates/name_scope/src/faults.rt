@@ -8,12 +8,12 @@ ghost use Rattle.script_rules.specs.NameFaults.{NameFault};
 ghost use Rattle.name_scope.specs.computed.Table.{roles_in};
 
 use crate::bodies::{class_names, defined_names, function_names, main_names};
-use script_rules::Occurrence;
 use crate::roles::Roles;
 use crate::rules::{defined_at, is_misused, is_twice, is_unknown, later};
 use crate::table::{NameTable, table_of};
 use class_types::sooner;
 use mono_syntax::{Item, Place, Reason, Refusal, Script};
+use script_rules::Occurrence;
 use std::alloc::{AllocError, Global};
 
 /// Takes a fault in where the test holds.

@@ -1,8 +1,8 @@
 ghost use Rattle.std.specs.Prelude.{◌≡◌};
 ghost use Rattle.name_scope.specs.computed.NameRoles.{no_roles, alone, together};
 
-use script_rules::Role;
 use mono_syntax::Place;
+use script_rules::Role;
 
 /// What a name is in a list of occurrences.
 #[derive(Clone, Copy, Debug, PartialEq, Eq)]

@@ -2,9 +2,9 @@ ghost use Rattle.std.specs.Prelude.{◌≡◌};
 ghost use Rattle.script_rules.specs.NameRules.{is_earlier, later};
 ghost use Rattle.name_scope.specs.computed.NameRoles.{is_unknown, is_twice, is_misused, defined_at};
 
-use script_rules::Role;
 use crate::roles::Roles;
 use mono_syntax::Place;
+use script_rules::Role;
 
 /// Whether a name is used that is no name of its block, no function and no class, or stands in a type and is no class.
 pub(crate) fn is_unknown(role: Role, body: Roles, script: Roles) -> bool

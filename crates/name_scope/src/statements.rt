@@ -4,8 +4,8 @@ ghost use Rattle.mono_syntax.specs.StmtView.{block, branches, else_block};
 ghost use Rattle.script_rules.specs.Occurrences.{at, in_expr, in_exprs, in_target, in_stmt, in_block, in_branches, in_else};
 
 use crate::collect::{put_ann, put_any_expr, put_expr, put_exprs, put_word};
-use script_rules::{Occurrence, Role};
 use mono_syntax::{Ann, Branch, Expr, Stmt, StmtKind, Word};
+use script_rules::{Occurrence, Role};
 use sqlite_items::Items;
 use std::alloc::AllocError;
 

@@ -2,9 +2,9 @@ ghost use Rattle.std.specs.Prelude.{◌≡◌, ℕ, List, bytes_eq, if◌then◌
 ghost use Rattle.name_scope.specs.computed.NameRoles.{no_roles, alone, together, roles_of};
 ghost use Rattle.name_scope.specs.computed.Table.{roles_in};
 
-use script_rules::Occurrence;
 use crate::roles::{Roles, alone, no_roles, together};
 use mono_syntax::Name;
+use script_rules::Occurrence;
 use std::alloc::{AllocError, Global};
 use std::collections::BTreeMap;
 

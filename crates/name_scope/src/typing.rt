@@ -10,10 +10,10 @@ ghost use Rattle.name_scope.specs.computed.Bound.{target_of};
 ghost use Rattle.name_scope.specs.computed.Typing.{EachWrites, NamesTyped};
 
 use crate::bound::Target;
-use script_rules::{Occurrence, Role};
 use crate::table::NameTable;
 use class_types::{ClassTypes, written_any};
 use mono_syntax::{Ann, TyAt, TypedName};
+use script_rules::{Occurrence, Role};
 use sqlite_items::Items;
 use std::alloc::{AllocError, Global};
 
