@@ -10,6 +10,7 @@ use Rattle.std.proofs.lemmas.Cmp.{nat_list_cmp_total}
 use Rattle.std.proofs.lemmas.List.Sorted.{IsPermutation-refl, IsPermutation-cons, IsPermutation-swap, IsPermutation-trans, IsPermutation-sym, Contains-permutation}
 use Rattle.std.proofs.lemmas.Map.Text.{is_eq-slice_cmp}
 use Rattle.std.proofs.lemmas.Slice.Eq.{bytes_eq-Decides}
+use Rattle.mono_syntax.specs.Limits.{most_parameters}
 use Rattle.mono_syntax.specs.declared.tree.ClassDef.{ClassDef}
 use Rattle.mono_syntax.specs.declared.tree.FieldDef.{FieldDef}
 use Rattle.mono_syntax.specs.Ann.{Ann, Anns}
@@ -105,7 +106,7 @@ as-many (write_more a as_) = ap (λ n. n + 1) (as-many as_)
 
 -- every Callable here is narrow
 abbrev Narrow : List Counted → Type 0
-Narrow l = (c : Counted) → In c l → c.count ≤ 8
+Narrow l = (c : Counted) → In c l → c.count ≤ most_parameters
 
 module _ (cs : List ClassDef) (well : AreWellFormed cs) where
   mutual
@@ -121,8 +122,8 @@ module _ (cs : List ClassDef) (well : AreWellFormed cs) where
         subst IsType (sym e) (order-order fs apart, order-types fs (declares-types ds (λ f i c ci. well.narrow d f stands (in-contains f d.fields i) c (in-contains c (callables f.ann) ci))))
     writes-type (writes_fun {p = p} {as_ = as_} {a = a} ws w) h =
         let count : tys_count _ ≡ count_of as_ = as-many ws in
-        let most : count_of as_ ≤ 8 = h (record { place = p; count = count_of as_ }) (inl refl) in (
-          subst (λ n. n ≤ 8) (sym count) most,
+        let most : count_of as_ ≤ most_parameters = h (record { place = p; count = count_of as_ }) (inl refl) in (
+          subst (λ n. n ≤ most_parameters) (sym count) most,
           all-types ws (λ c i. h c (inr (in-left c (callables_all as_) (callables a) i))),
           writes-type w (λ c i. h c (inr (in-right c (callables_all as_) (callables a) i))),
         )

@@ -25,7 +25,8 @@ use Rattle.static_types.specs.Names.{Names}
 use Rattle.static_types.specs.Rules.{at}
 use Rattle.static_types.specs.Scripts.{IsFunctionScope, TypedFunction, FunctionFault, in_body, at_end, TypedItems, no_item, class_item, function_item, line_item, ItemFault, in_function, in_line, behind_class, behind_function, behind_line, IsTypeFault}
 use Rattle.mono_tree.specs.Meet.{Consistent}
-use Rattle.static_types.specs.Typing.{AllStand, IsTyping, IsFault, Refuses}
+use Rattle.script_rules.specs.LoadFaults.{IsFault, Refuses}
+use Rattle.static_types.specs.Typing.{AllStand, IsTyping}
 use Rattle.static_types.proofs.ScriptLaws.{script_or_fault, script_fault_once}
 use Rattle.known_names.specs.declared.known.Known.{Known}
 use Rattle.known_names.specs.declared.known.Local.{Local}
@@ -207,7 +208,7 @@ module _ (d : Scoped) (scope : IsScope d.script d) where
   answer_accepted (Ok p) h = subst (λ (z : Result Typed Refusal). IsChecked z) h checked_so
   answer_accepted (Err f) h = tt
 
-  pub answer_refused : (r : Result Typed LoadFault) → Gives r (checked d) → IfErr r (IsFault d)
+  pub answer_refused : (r : Result Typed LoadFault) → Gives r (checked d) → IfErr r (IsFault (IsTypeFault d.script))
   answer_refused (Ok p) h = tt
   answer_refused (Err (Refused f)) h = subst (λ (z : Result Typed Refusal). IsChecked z) h checked_so
   answer_refused (Err Memory) h = tt

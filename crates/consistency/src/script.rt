@@ -4,7 +4,8 @@ ghost use Rattle.mono_syntax.specs.declared.refusal.Refusal.{Refusal};
 ghost use Rattle.mono_syntax.specs.declared.script.Typed.{Typed};
 ghost use Rattle.mono_syntax.specs.declared.tree.Item.TheVariants as item;
 ghost use Rattle.script_rules.specs.Scoping.{IsScope};
-ghost use Rattle.static_types.specs.Typing.{IsTyping, IsFault, Refuses};
+ghost use Rattle.script_rules.specs.LoadFaults.{IsFault, Refuses};
+ghost use Rattle.static_types.specs.Typing.{IsTyping};
 ghost use Rattle.static_types.specs.Scripts.{IsTypeFault};
 ghost use Rattle.known_names.specs.computed.Gives.{Gives};
 ghost use Rattle.known_names.specs.computed.Gathered.{known_in};
@@ -191,7 +192,7 @@ fn checked(alloc: Global, scoped: &Shared<Scoped>) -> Result<Typed, LoadFault>
 pub fn check(alloc: Global, scoped: &Shared<Scoped>) -> Result<Typed, LoadFault>
     requires scope { IsScope scoped.now.script scoped.now }
     ensures accepted { IfOk result (IsTyping scoped.now) }
-    ensures refused { IfErr result (IsFault scoped.now) }
+    ensures refused { IfErr result (IsFault (IsTypeFault scoped.now.script)) }
 
     // What the rules accept is accepted, and what they refuse is refused so, unless there is no memory.
     ensures accepts { (p : Typed) → IsTyping scoped.now p → IsOkUnless result LoadFault.Memory }

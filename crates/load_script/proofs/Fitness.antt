@@ -2,6 +2,7 @@
 use Rattle.std.proofs.Common.{◌≡◌, inl, ℕ, zero, suc, ◌+◌, ◌<◌, ◌≤◌, List, [], ◌∷◌, ◌++◌, map, flat_map, refl, sym, ◌∙◌, ap, subst, arith, append_assoc}
 use Rattle.std.specs.Prelude.{Contains}
 use Rattle.std.proofs.lemmas.List.Elements.{Contains-append_left, Contains-append_right}
+use Rattle.mono_syntax.specs.Limits.{most_parameters}
 use Rattle.mono_syntax.specs.declared.refusal.Reason.TheVariants.{Twice, TooManyParameters}
 use Rattle.mono_syntax.specs.declared.tree.ClassDef.{ClassDef}
 use Rattle.mono_syntax.specs.declared.tree.FieldDef.{FieldDef}
@@ -91,7 +92,7 @@ same_count no_anns = refl
 same_count (more_anns a as_) = ap (λ n. n + 1) (same_count as_)
 
 mutual
-  narrow : (a : Ann) → ((c : Counted) → Contains (callables a) c → 8 < c.count → ⊥) → IsNarrow a
+  narrow : (a : Ann) → ((c : Counted) → Contains (callables a) c → most_parameters < c.count → ⊥) → IsNarrow a
   narrow (ann p form.dyn) h = tt
   narrow (ann p form.int) h = tt
   narrow (ann p form.bool) h = tt
@@ -100,13 +101,13 @@ mutual
   narrow (ann p (form.class w)) h = tt
   narrow (ann p (form.fun as_ a)) h =
       let own : Counted = record { place = p; count = count_of as_ } in
-      let few : ann_count as_ ≤ 8 = let n = h own (head_stands own (callables_all as_ ++ callables a)) in let same = same_count as_ in omega (arith, n, same) in (
+      let few : ann_count as_ ≤ most_parameters = let n = h own (head_stands own (callables_all as_ ++ callables a)) in let same = same_count as_ in omega (arith, n, same) in (
         few,
         all_narrow as_ (λ c k. h c (tail_stands own (callables_all as_ ++ callables a) c (Contains-append_left (callables_all as_) (callables a) c k))),
         narrow a (λ c k. h c (tail_stands own (callables_all as_ ++ callables a) c (Contains-append_right (callables_all as_) (callables a) c k))),
       )
 
-  all_narrow : (as_ : Anns) → ((c : Counted) → Contains (callables_all as_) c → 8 < c.count → ⊥) → AreNarrow as_
+  all_narrow : (as_ : Anns) → ((c : Counted) → Contains (callables_all as_) c → most_parameters < c.count → ⊥) → AreNarrow as_
   all_narrow no_anns h = tt
   all_narrow (more_anns a as_) h =
       (narrow a (λ c k. h c (Contains-append_left (callables a) (callables_all as_) c k)), all_narrow as_ (λ c k. h c (Contains-append_right (callables a) (callables_all as_) c k)))

@@ -12,7 +12,8 @@ use Rattle.py_lexer.specs.declared.token.Token.{Token}
 use Rattle.py_lexer.specs.Lexes as lexer
 use Rattle.py_lexer.specs.Lexes.{Lexes, FirstLexFault, RefusesBytes}
 use Rattle.parse_script.specs.Script.{DerivesScript, IsRefused}
-use Rattle.load_script.specs.TreePhases.{IsTreeProgram, RefusesTree, IsFault, Gives}
+use Rattle.script_rules.specs.LoadFaults.{IsFault, Refuses}
+use Rattle.load_script.specs.TreePhases.{IsTreeProgram, RefusesTree}
 use Rattle.load_script.specs.Phases.{IsTokensProgram, RefusesTokens, unread, in_tree, IsTextProgram, RefusesText, unlexed, in_tokens, IsProgramOf, IsFirstRefusal, long, undecoded, in_text}
 use Rattle.load_script.proofs.Fronts.{read_whole, refused_once}
 use Rattle.load_script.proofs.TreeLoading.{no_program}
@@ -31,7 +32,7 @@ tree_fault text tokens s t (Err (Refused q)) h = in_tree t h
 tree_fault text tokens s t (Err Memory) h = tt
 
 pub tree_refuses : (text : List ℕ) (tokens : List Token) (s : Script) → DerivesScript text tokens s → ((u : Script) → DerivesScript text tokens u → s ≡ u)
-    → (r : Result CastScript LoadFault) → ((q : Refusal) → RefusesTree s q → Gives r q) → (q : Refusal) → RefusesTokens text tokens q → Gives r q
+    → (r : Result CastScript LoadFault) → ((q : Refusal) → RefusesTree s q → Refuses r q) → (q : Refusal) → RefusesTokens text tokens q → Refuses r q
 tree_refuses text tokens s t one r h q (unread f) = absurd (read_whole text tokens s q t f)
 tree_refuses text tokens s t one r h q (in_tree {s = u} v f) = h q (subst (λ (x : Script). RefusesTree x q) (sym (one u v)) f)
 
@@ -40,7 +41,7 @@ parse_fault text tokens (Refused r) h = unread h
 parse_fault text tokens Memory h = tt
 
 pub parse_refuses : (text : List ℕ) (tokens : List Token) (f : LoadFault) → IsRefused text tokens f → ((u : Script) → DerivesScript text tokens u → f ≡ Memory)
-    → (q : Refusal) → RefusesTokens text tokens q → Gives (no_program f) q
+    → (q : Refusal) → RefusesTokens text tokens q → Refuses (no_program f) q
 parse_refuses text tokens (Refused r) h complete q (unread g) = inl (ap Refused (refused_once text tokens r q h g))
 parse_refuses text tokens Memory h complete q (unread g) = inr refl
 parse_refuses text tokens f h complete q (in_tree {s = u} v g) = inr (complete u v)
@@ -60,7 +61,7 @@ tokens_fault text tokens l (Err Memory) h = tt
 
 pub tokens_refuses : (text : List ℕ) (tokens : List Token) → ((ts : List Token) → Lexes (chars text) ts → tokens ≡ ts)
     → ((q : Refusal) → FirstLexFault (chars text) q → ⊥) → (r : Result CastScript LoadFault)
-    → ((q : Refusal) → RefusesTokens text tokens q → Gives r q) → (q : Refusal) → RefusesText text q → Gives r q
+    → ((q : Refusal) → RefusesTokens text tokens q → Refuses r q) → (q : Refusal) → RefusesText text q → Refuses r q
 tokens_refuses text tokens one none r h q (unlexed f) = absurd (none q f)
 tokens_refuses text tokens one none r h q (in_tokens {tokens = us} l f) = h q (subst (λ (ts : List Token). RefusesTokens text ts q) (sym (one us l)) f)
 
@@ -69,7 +70,7 @@ lex_fault text (Refused r) h = unlexed h
 lex_fault text Memory h = tt
 
 pub lex_refuses : (text : List ℕ) (f : LoadFault) → ((ts : List Token) → Lexes (chars text) ts → f ≡ Memory)
-    → ((q : Refusal) → FirstLexFault (chars text) q → (f ≡ Refused q) ⊎ (f ≡ Memory)) → (q : Refusal) → RefusesText text q → Gives (no_program f) q
+    → ((q : Refusal) → FirstLexFault (chars text) q → (f ≡ Refused q) ⊎ (f ≡ Memory)) → (q : Refusal) → RefusesText text q → Refuses (no_program f) q
 lex_refuses text f accepts refuses q (unlexed g) = refuses q g
 lex_refuses text f accepts refuses q (in_tokens {tokens = us} l g) = inr (accepts us l)
 
@@ -87,13 +88,13 @@ text_fault bytes text l e u (Err (Refused q)) h = in_text l u (subst (λ (t : Li
 text_fault bytes text l e u (Err Memory) h = tt
 
 pub text_refuses : (bytes text : List ℕ) → length bytes ≤ most_bytes → text ≡ bytes → IsUtf8 bytes → (r : Result CastScript LoadFault)
-    → ((q : Refusal) → RefusesText text q → Gives r q) → (q : Refusal) → IsFirstRefusal bytes q → Gives r q
+    → ((q : Refusal) → RefusesText text q → Refuses r q) → (q : Refusal) → IsFirstRefusal bytes q → Refuses r q
 text_refuses bytes text l e u r h q (long b) = absurd (omega (arith, l, b))
 text_refuses bytes text l e u r h q (undecoded b f) = absurd (f.no_text u)
 text_refuses bytes text l e u r h q (in_text b v f) = h q (subst (λ (t : List ℕ). RefusesText t q) (sym e) f)
 
 pub decode_refuses : (bytes : List ℕ) → length bytes ≤ most_bytes → (r : Refusal) → RefusesBytes bytes r → (q : Refusal) → IsFirstRefusal bytes q
-    → Gives (no_program (Refused r)) q
+    → Refuses (no_program (Refused r)) q
 decode_refuses bytes l r h q (long b) = absurd (omega (arith, l, b))
 decode_refuses bytes l r h q (undecoded b f) = inl (ap Refused (h.refused ∙ sym f.refused))
 decode_refuses bytes l r h q (in_text b v f) = absurd (h.no_text v)

@@ -1,9 +1,7 @@
 -- From the tree of a script to the script with its casts: its forms and its sizes are looked at, its names get their types,
 -- and it gets its casts. The first phase that refuses ends it.
-use Rattle.std.specs.Prelude.{◌≡◌, ◌⊎◌, List, Result, Ok, Err}
+use Rattle.std.specs.Prelude.{◌≡◌, List}
 use Rattle.mono_syntax.specs.declared.cast.CastScript.{CastScript}
-use Rattle.mono_syntax.specs.declared.refusal.LoadFault.{LoadFault}
-use Rattle.mono_syntax.specs.declared.refusal.LoadFault.TheVariants.{Refused, Memory}
 use Rattle.mono_syntax.specs.declared.refusal.Refusal.{Refusal}
 use Rattle.mono_syntax.specs.declared.script.Scoped.{Scoped}
 use Rattle.mono_syntax.specs.declared.tree.Script.{Script}
@@ -41,15 +39,3 @@ pub data RefusesTree (s : Script) : Refusal → Type 0 where
 -- the tree has only forms that typing is built for, once its names are right
 abbrev pub HasBuiltForms : Script → Type 0
 HasBuiltForms s = (d : Scoped) (names : Names) → IsRight s → IsScope s d → IsMainNames d names → AreBuilt names s.items
-
--- ---- what a phase answers
-
--- a refusal is one of these; want of memory says nothing
-abbrev pub IsFault : (Refusal → Type 0) → LoadFault → Type 0
-IsFault Refuses (Refused r) = Refuses r
-IsFault Refuses Memory = Unit {0}
-
--- the answer is this refusal, or there was no memory
-abbrev pub Gives : {A : Type 0} → Result A LoadFault → Refusal → Type 0
-Gives (Ok x) r = ⊥
-Gives (Err f) r = (f ≡ Refused r) ⊎ (f ≡ Memory)

@@ -8,7 +8,8 @@ ghost use Rattle.script_rules.specs.FirstFault.{IsFaultless};
 ghost use Rattle.script_rules.specs.SizeFaults.{SizeFault};
 ghost use Rattle.built_forms.specs.BuiltTrees.{IsBuiltTree};
 ghost use Rattle.parse_script.specs.Shapes.{IsShaped};
-ghost use Rattle.load_script.specs.TreePhases.{IsTreeProgram, RefusesTree, HasBuiltForms, IsFault, Gives};
+ghost use Rattle.script_rules.specs.LoadFaults.{IsFault, Refuses};
+ghost use Rattle.load_script.specs.TreePhases.{IsTreeProgram, RefusesTree, HasBuiltForms};
 ghost use Rattle.load_script.specs.Phases.{IsTokensProgram, RefusesTokens, IsTextProgram, RefusesText, IsProgramOf, IsFirstRefusal};
 
 use built_forms::is_built;
@@ -33,7 +34,7 @@ fn load_sized(alloc: Global, script: &Script) -> Result<CastScript, LoadFault>
     requires built { HasBuiltForms script.now }
     ensures accepted { IfOk result (IsTreeProgram script.now) }
     ensures refused { IfErr result (IsFault (RefusesTree script.now)) }
-    ensures refuses { (r : Refusal) → RefusesTree script.now r → Gives result r }
+    ensures refuses { (r : Refusal) → RefusesTree script.now r → Refuses result r }
     ensures typed { IfOk result IsTypedProgram }
 {
     match scope(alloc, script) {
@@ -48,7 +49,7 @@ fn load_built(alloc: Global, script: &Script) -> Result<CastScript, LoadFault>
     requires built { HasBuiltForms script.now }
     ensures accepted { IfOk result (IsTreeProgram script.now) }
     ensures refused { IfErr result (IsFault (RefusesTree script.now)) }
-    ensures refuses { (r : Refusal) → RefusesTree script.now r → Gives result r }
+    ensures refuses { (r : Refusal) → RefusesTree script.now r → Refuses result r }
     ensures typed { IfOk result IsTypedProgram }
 {
     match size_refusal(alloc, script) {
@@ -62,7 +63,7 @@ fn load_tree(alloc: Global, script: &Script) -> Result<CastScript, LoadFault>
     requires { IsShaped script.now }
     ensures accepted { IfOk result (IsTreeProgram script.now) }
     ensures refused { IfErr result (IsFault (RefusesTree script.now)) }
-    ensures refuses { (r : Refusal) → RefusesTree script.now r → Gives result r }
+    ensures refuses { (r : Refusal) → RefusesTree script.now r → Refuses result r }
     ensures typed { IfOk result IsTypedProgram }
 {
     if is_built(script) {
@@ -77,7 +78,7 @@ fn load_tokens(alloc: Global, tokens: &[Token], text: &str) -> Result<CastScript
     requires lexed { Lexes (chars text.now) tokens.now }
     ensures accepted { IfOk result (IsTokensProgram text.now tokens.now) }
     ensures refused { IfErr result (IsFault (RefusesTokens text.now tokens.now)) }
-    ensures refuses { (r : Refusal) → RefusesTokens text.now tokens.now r → Gives result r }
+    ensures refuses { (r : Refusal) → RefusesTokens text.now tokens.now r → Refuses result r }
     ensures typed { IfOk result IsTypedProgram }
 {
     match parse(alloc, tokens, text) {
@@ -90,7 +91,7 @@ fn load_text(alloc: Global, text: &str) -> Result<CastScript, LoadFault>
     requires { length text.now ≤ most_bytes }
     ensures accepted { IfOk result (IsTextProgram text.now) }
     ensures refused { IfErr result (IsFault (RefusesText text.now)) }
-    ensures refuses { (r : Refusal) → RefusesText text.now r → Gives result r }
+    ensures refuses { (r : Refusal) → RefusesText text.now r → Refuses result r }
     ensures typed { IfOk result IsTypedProgram }
 {
     match lex(alloc, text) {
@@ -108,7 +109,7 @@ pub fn load(alloc: Global, bytes: &[u8]) -> Result<CastScript, LoadFault>
     ensures refused { IfErr result (IsFault (IsFirstRefusal bytes.now)) }
 
     // What the rules refuse is refused so, unless there is no memory.
-    ensures refuses { (r : Refusal) → IsFirstRefusal bytes.now r → Gives result r }
+    ensures refuses { (r : Refusal) → IsFirstRefusal bytes.now r → Refuses result r }
 
     ensures typed { IfOk result IsTypedProgram }
 {

@@ -19,7 +19,8 @@ use Rattle.script_rules.specs.Recursion.{RecursionFault}
 use Rattle.script_rules.specs.SizeFaults.{SizeFault}
 use Rattle.name_scope.specs.declared.blocks.TypedFunctions.{TypedFunctions}
 use Rattle.script_rules.specs.NameFaults.{NameFault}
-use Rattle.script_rules.specs.ScopeFaults.{ScopeFault, IsRight, IsScopeRefusal, misnamed, oversized, IsFault, Refuses, IsAnswer}
+use Rattle.script_rules.specs.LoadFaults.{IsFault, Refuses}
+use Rattle.script_rules.specs.ScopeFaults.{ScopeFault, IsRight, IsScopeRefusal, misnamed, oversized, IsAnswer}
 use Rattle.name_scope.specs.computed.Typing.{FunctionBlocksStand, FunctionsTyped}
 use Rattle.name_scope.proofs.FaultOrder.{one_first}
 use Rattle.name_scope.proofs.Growth.{functions_grow, blocks_grow, blocks_main}
@@ -48,7 +49,7 @@ pub answer_right : (s : Script) (a : Result Scoped LoadFault) → IsAnswer s a �
 answer_right s (Ok d) h = h.0
 answer_right s (Err f) h = tt
 
-pub answer_refused : (s : Script) (a : Result Scoped LoadFault) → IsAnswer s a → IfErr a (IsFault s)
+pub answer_refused : (s : Script) (a : Result Scoped LoadFault) → IsAnswer s a → IfErr a (IsFault (IsScopeRefusal s))
 answer_refused s (Ok d) h = tt
 answer_refused s (Err f) h = h
 

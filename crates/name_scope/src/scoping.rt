@@ -4,7 +4,8 @@ ghost use Rattle.script_rules.specs.Scoping.{class_list, IsScope};
 ghost use Rattle.script_rules.specs.FirstFault.{IsFirst, IsFaultless};
 ghost use Rattle.class_types.specs.Holds.{Holds};
 ghost use Rattle.name_scope.specs.computed.FoundFaults.{first_of_both};
-ghost use Rattle.script_rules.specs.ScopeFaults.{ScopeFault, IsRight, IsScopeRefusal, IsFault, Refuses, IsAnswer};
+ghost use Rattle.script_rules.specs.LoadFaults.{IsFault, Refuses};
+ghost use Rattle.script_rules.specs.ScopeFaults.{ScopeFault, IsRight, IsScopeRefusal, IsAnswer};
 ghost use Rattle.name_scope.specs.computed.Typing.{HasTypes};
 
 use crate::blocks::{TypedFunctions, main_scope, typed_functions};
@@ -107,7 +108,7 @@ fn answer(alloc: Global, script: &Script) -> Result<Scoped, LoadFault>
 pub fn scope(alloc: Global, script: &Script) -> Result<Scoped, LoadFault>
     ensures accepted { IfOk result (IsScope script.now) }
     ensures right { IfOk result (λ _. IsRight script.now) }
-    ensures refused { IfErr result (IsFault script.now) }
+    ensures refused { IfErr result (IsFault (IsScopeRefusal script.now)) }
 
     // What the rules accept is accepted, and what they refuse is refused so, unless there is no memory.
     ensures accepts { IsRight script.now → IsOkUnless result LoadFault.Memory }

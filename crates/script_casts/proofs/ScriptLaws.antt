@@ -18,7 +18,7 @@ use Rattle.script_rules.specs.BlockNames.{Target, firsts, all_targets}
 use Rattle.script_rules.specs.Scoping.{IsScope, class_list, main_block}
 use Rattle.typing_rules.specs.BuiltForms.{AreBuilt, not_built}
 use Rattle.typing_rules.specs.ElaboratesLines.{ElaboratesBlock}
-use Rattle.typing_rules.specs.HasCasts.{AreClasses, AreNames, IsMainNames, HasCasts, IsRefusal, unbuilt, mistyped, IsFault, HaveClassTypes}
+use Rattle.typing_rules.specs.HasCasts.{AreClasses, AreNames, IsMainNames, HasCasts, IsRefusal, unbuilt, mistyped, HaveClassTypes}
 use Rattle.typing_rules.specs.Members.{Names}
 use Rattle.typing_rules.specs.LineFaults.{BlockFault}
 use Rattle.typing_rules.proofs.TypedLaws.{well_typed}
@@ -28,7 +28,8 @@ use Rattle.script_casts.specs.declared.types.Placed.{Placed}
 use Rattle.script_casts.specs.computed.Fine.{all_fine}
 use Rattle.script_casts.specs.computed.Inserted.{and_then}
 use Rattle.script_casts.specs.computed.Lines.{class_of, block_from, lines_from, finished, start, made_from, made}
-use Rattle.script_casts.specs.computed.Refusals.{Gives, Refuses}
+use Rattle.script_rules.specs.LoadFaults.{IsFault, Refuses}
+use Rattle.script_casts.specs.computed.Refusals.{Gives}
 use Rattle.script_casts.specs.computed.TypeList.{with_type}
 use Rattle.script_casts.proofs.FineLaws.{fine_items, items_fine, fine_block}
 use Rattle.script_casts.proofs.InsertLaws.{Within}
@@ -177,7 +178,7 @@ pub answer_casts : (d : Scoped) (r : Result CastScript LoadFault) → IsScope d.
 answer_casts d (Ok p) s g = made_casts d s p g
 answer_casts d (Err f) s g = tt
 
-pub answer_fault : (d : Scoped) (r : Result CastScript LoadFault) → IsScope d.script d → Gives r (made d) → IfErr r (λ f. IsFault d f)
+pub answer_fault : (d : Scoped) (r : Result CastScript LoadFault) → IsScope d.script d → Gives r (made d) → IfErr r (λ f. IsFault (IsRefusal d) f)
 answer_fault d (Ok p) s g = tt
 answer_fault d (Err (Refused r)) s g = made_refusal d s r g
 answer_fault d (Err Memory) s g = tt

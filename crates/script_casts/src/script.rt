@@ -4,10 +4,11 @@ ghost use Rattle.mono_syntax.specs.declared.refusal.Refusal.{Refusal};
 ghost use Rattle.mono_syntax.specs.Ty.{dyn};
 ghost use Rattle.mono_tree.specs.TypedPrograms.{IsTypedProgram};
 ghost use Rattle.script_rules.specs.Scoping.{IsScope};
-ghost use Rattle.typing_rules.specs.HasCasts.{HasCasts, IsRefusal, IsFault, HaveClassTypes};
+ghost use Rattle.typing_rules.specs.HasCasts.{HasCasts, IsRefusal, HaveClassTypes};
 ghost use Rattle.script_casts.specs.computed.Lines.{class_of, finished, made_with, made_at, made};
 ghost use Rattle.script_casts.specs.computed.TypeList.{with_type};
-ghost use Rattle.script_casts.specs.computed.Refusals.{Gives, Refuses};
+ghost use Rattle.script_rules.specs.LoadFaults.{IsFault, Refuses};
+ghost use Rattle.script_casts.specs.computed.Refusals.{Gives};
 
 use crate::blocks::{Body, all_lines};
 use crate::fine::all_fine;
@@ -139,7 +140,7 @@ pub fn with_casts(alloc: Global, scoped: Scoped) -> Result<CastScript, LoadFault
     requires scope { IsScope scoped.script scoped }
     requires types { HaveClassTypes scoped }
     ensures accepted { IfOk result (HasCasts scoped) }
-    ensures refused { IfErr result (IsFault scoped) }
+    ensures refused { IfErr result (IsFault (IsRefusal scoped)) }
 
     // What the rules accept is accepted, and what they refuse is refused so, unless there is no memory.
     ensures accepts { (p : CastScript) → HasCasts scoped p → IsOkUnless result LoadFault.Memory }

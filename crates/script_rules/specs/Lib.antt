@@ -21,6 +21,8 @@ pub mod WellFormed
 pub mod Occurrences
 pub mod NameRules
 pub mod NameFaults
+-- what the answer of a phase says of refusals
+pub mod LoadFaults
 -- what a script is refused for by its names and sizes
 pub mod ScopeFaults
 -- where an expression stands

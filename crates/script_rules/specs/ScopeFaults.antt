@@ -1,13 +1,13 @@
 -- What the names of a script are refused for, and what is accepted.
-use Rattle.std.specs.Prelude.{◌≡◌, ◌⊎◌, Result, Ok, Err}
+use Rattle.std.specs.Prelude.{◌⊎◌, Result, Ok, Err}
 use Rattle.mono_syntax.specs.declared.leaf.Place.{Place}
 use Rattle.mono_syntax.specs.declared.refusal.LoadFault.{LoadFault}
-use Rattle.mono_syntax.specs.declared.refusal.LoadFault.TheVariants.{Refused, Memory}
 use Rattle.mono_syntax.specs.declared.refusal.Reason.{Reason}
 use Rattle.mono_syntax.specs.declared.refusal.Refusal.{Refusal}
 use Rattle.mono_syntax.specs.declared.script.Scoped.{Scoped}
 use Rattle.mono_syntax.specs.declared.tree.Script.{Script}
 use Rattle.script_rules.specs.Scoping.{class_list, IsScope}
+use Rattle.script_rules.specs.LoadFaults.{IsFault}
 use Rattle.script_rules.specs.FirstFault.{IsFirst, IsFaultless}
 use Rattle.script_rules.specs.Recursion.{IsRecursive}
 use Rattle.script_rules.specs.SizeFaults.{SizeFault}
@@ -27,17 +27,7 @@ pub data IsScopeRefusal (s : Script) : Refusal → Type 0 where
   misnamed : {r : Refusal} → IsFirst (ScopeFault s) r → IsScopeRefusal s r
   oversized : {r : Refusal} → IsFaultless (ScopeFault s) → IsFirst (SizeFault s) r → IsScopeRefusal s r
 
--- the script is refused so, or there was no memory
-abbrev pub IsFault : Script → LoadFault → Type 0
-IsFault s (Refused r) = IsScopeRefusal s r
-IsFault s Memory = Unit {0}
-
--- the answer is this refusal, or there was no memory
-abbrev pub Refuses : Result Scoped LoadFault → Refusal → Type 0
-Refuses (Ok d) r = ⊥
-Refuses (Err f) r = (f ≡ Refused r) ⊎ (f ≡ Memory)
-
 -- the answer is what the rules give, or there was no memory
 abbrev pub IsAnswer : Script → Result Scoped LoadFault → Type 0
 IsAnswer s (Ok d) = IsRight s × IsScope s d
-IsAnswer s (Err f) = IsFault s f
+IsAnswer s (Err f) = IsFault (IsScopeRefusal s) f

@@ -1,14 +1,11 @@
 -- A script whose expressions have their types.
-use Rattle.std.specs.Prelude.{◌≡◌, ◌⊎◌, List, [], ◌∷◌, Some, Result, Ok, Err, slice_get}
+use Rattle.std.specs.Prelude.{◌≡◌, List, [], ◌∷◌, Some, slice_get}
 use Rattle.mono_syntax.specs.declared.leaf.TyAt.{TyAt}
-use Rattle.mono_syntax.specs.declared.refusal.LoadFault.{LoadFault}
-use Rattle.mono_syntax.specs.declared.refusal.LoadFault.TheVariants.{Refused, Memory}
-use Rattle.mono_syntax.specs.declared.refusal.Refusal.{Refusal}
 use Rattle.mono_syntax.specs.declared.script.Scoped.{Scoped}
 use Rattle.mono_syntax.specs.declared.script.Typed.{Typed}
 use Rattle.mono_syntax.specs.Ty.{Ty}
 use Rattle.mono_tree.specs.ClosedList.{AreDistinct}
-use Rattle.static_types.specs.Scripts.{HasTypes, IsTypeFault}
+use Rattle.static_types.specs.Scripts.{HasTypes}
 
 -- at these positions of a list stand these types
 abbrev pub AllStand : List Ty → List TyAt → List Ty → Type 0
@@ -23,13 +20,3 @@ pub record IsTyping (d : Scoped) (p : Typed) : Type 0 where
   pub all : List Ty
   pub stand : AllStand p.types p.exprs all
   pub types : HasTypes d.script all
-
--- a refusal is one of the rules; want of memory is none
-abbrev pub IsFault : Scoped → LoadFault → Type 0
-IsFault d (Refused f) = IsTypeFault d.script f
-IsFault d Memory = Unit {0}
-
--- the answer is this refusal, or there was no memory
-abbrev pub Refuses : Result Typed LoadFault → Refusal → Type 0
-Refuses (Ok p) r = ⊥
-Refuses (Err f) r = (f ≡ Refused r) ⊎ (f ≡ Memory)

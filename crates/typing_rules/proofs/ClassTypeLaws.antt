@@ -2,6 +2,7 @@
 use Rattle.std.proofs.Common.{◌≡◌, ℕ, suc, ◌+◌, ◌≤◌, List, [], ◌∷◌, Some, map, bytes_eq, refl, sym, ap, subst, arith, if◌then◌else◌}
 use Rattle.std.specs.Prelude.{Contains}
 use Rattle.mono_list.proofs.Cases.{split, some_is, none_some}
+use Rattle.mono_syntax.specs.Limits.{most_parameters}
 use Rattle.mono_syntax.specs.declared.tree.ClassDef.{ClassDef}
 use Rattle.mono_syntax.specs.declared.tree.FieldDef.{FieldDef}
 use Rattle.mono_syntax.specs.Ann.{Ann, Anns}
@@ -41,7 +42,7 @@ module _ (cs : List ClassDef) (fit : AreFit cs) where
         let different = subst (λ (l : List (List ℕ)). AreDifferent l) (same_names cs d.fields fs f) (fit.different d stands) in
         subst (λ (u : Ty). IsType u) (sym e) (in_order-AreInOrder fs different, in_order-HaveTypes fs types)
     writes_types a t (writes_fun {as_ = as_} {a = b} {ts = ts} {t = u} f g) n =
-        (subst (λ (k : ℕ). k ≤ 8) (same_count cs as_ ts f) n.0, all_types as_ ts f n.1, writes_types b u g n.2)
+        (subst (λ (k : ℕ). k ≤ most_parameters) (same_count cs as_ ts f) n.0, all_types as_ ts f n.1, writes_types b u g n.2)
 
     all_types : (as_ : Anns) (ts : Tys) → WriteAll cs as_ ts → AreNarrow as_ → AreTypes ts
     all_types as_ ts write_none n = tt

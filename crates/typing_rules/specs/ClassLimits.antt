@@ -1,5 +1,6 @@
 -- What makes the types of classes types: no field stands twice in a class, and no Callable has over eight parameters.
 use Rattle.std.specs.Prelude.{ℕ, ◌+◌, ◌≤◌, List, [], ◌∷◌, map, Contains}
+use Rattle.mono_syntax.specs.Limits.{most_parameters}
 use Rattle.mono_syntax.specs.declared.tree.ClassDef.{ClassDef}
 use Rattle.mono_syntax.specs.Ann.{Ann, ann, fun, Anns, no_anns, more_anns}
 use Rattle.mono_syntax.specs.declared.tree.FieldDef.{FieldDef}
@@ -11,7 +12,7 @@ ann_count (more_anns a as_) = ann_count as_ + 1
 abbrev mutual
   -- each Callable in the annotation has at most eight parameters
   pub IsNarrow : Ann → Type 0
-  IsNarrow (ann p (fun as_ a)) = (ann_count as_ ≤ 8) × AreNarrow as_ × IsNarrow a
+  IsNarrow (ann p (fun as_ a)) = (ann_count as_ ≤ most_parameters) × AreNarrow as_ × IsNarrow a
   IsNarrow (ann p form) = Unit {0}
 
   pub AreNarrow : Anns → Type 0

@@ -3,8 +3,6 @@ use Rattle.std.specs.Prelude.{◌≡◌, List, [], ◌∷◌, Contains, map}
 use Rattle.mono_syntax.specs.declared.cast.CastClass.{CastClass}
 use Rattle.mono_syntax.specs.declared.cast.CastScript.{CastScript}
 use Rattle.mono_syntax.specs.declared.cast.NamedType.{NamedType}
-use Rattle.mono_syntax.specs.declared.refusal.LoadFault.{LoadFault}
-use Rattle.mono_syntax.specs.declared.refusal.LoadFault.TheVariants.{Refused, Memory}
 use Rattle.mono_syntax.specs.declared.refusal.Refusal.{Refusal}
 use Rattle.mono_syntax.specs.declared.script.Scoped.{Scoped}
 use Rattle.mono_syntax.specs.declared.tree.ClassDef.{ClassDef}
@@ -58,11 +56,6 @@ pub data IsRefusal (d : Scoped) : Refusal → Type 0 where
   -- two types have no meet where one is used at the other, or a field isn't there, or arguments are too many or too few
   mistyped : (names : Names) (types : List Ty) (r : Refusal) → IsMainNames d names → AreBuilt names d.script.items
       → BlockFault types names (block (main_block d.script)) r → IsRefusal d r
-
--- a refusal is one of the rules; want of memory is none
-abbrev pub IsFault : Scoped → LoadFault → Type 0
-IsFault d Memory = Unit {0}
-IsFault d (Refused r) = IsRefusal d r
 
 -- the class types are types: no field stands twice, and no Callable has over eight parameters
 abbrev pub HaveClassTypes : Scoped → Type 0

@@ -1,14 +1,8 @@
 -- Computed: what an answer says of a refusal.
-use Rattle.std.specs.Prelude.{◌≡◌, ◌⊎◌, Result, Ok, Err}
-use Rattle.mono_syntax.specs.declared.cast.CastScript.{CastScript}
+use Rattle.std.specs.Prelude.{◌≡◌, Result, Ok, Err}
 use Rattle.mono_syntax.specs.declared.refusal.LoadFault.{LoadFault}
 use Rattle.mono_syntax.specs.declared.refusal.LoadFault.TheVariants.{Refused, Memory}
 use Rattle.mono_syntax.specs.declared.refusal.Refusal.{Refusal}
-
--- the answer is this refusal, or there was no memory
-abbrev pub Refuses : Result CastScript LoadFault → Refusal → Type 0
-Refuses (Ok p) r = ⊥
-Refuses (Err f) r = (f ≡ Refused r) ⊎ (f ≡ Memory)
 
 -- the result is this value or this refusal, or there was no memory
 abbrev pub Gives : {A : Type 0} → Result A LoadFault → Result A Refusal → Type 0
