@@ -215,16 +215,31 @@ fn reads_one(alloc: Global) -> Result<bool, AllocError> {
 }
 
 #[test]
-fn stretches(rt: HostRuntime) -> Result<(), Fail> {
-    let whole = "a.b(1 + 2, 'x',) < -cast(Callable[[int], Dyn], join(t)) and not (None or True)\n";
-    let (tree, behind) = read_expr(rt.alloc(), whole)?;
+fn whole(rt: HostRuntime) -> Result<(), Fail> {
+    let text = "a.b(1 + 2, 'x',) < -cast(Callable[[int], Dyn], join(t)) and not (None or True)\n";
+    let (tree, behind) = read_expr(rt.alloc(), text)?;
     assert_eq!(rt; behind, 36);
     assert!(rt; is_whole(&tree));
-    let (chain, _) = read_expr(rt.alloc(), "1 - a - b\n")?;
-    assert!(rt; is_chain(&chain));
-    let (comparison, end) = read_expr(rt.alloc(), "a < b < c\n")?;
-    assert_eq!(rt; end, 3);
-    assert!(rt; is_comparison(&comparison));
+    Ok(())
+}
+
+#[test]
+fn chain(rt: HostRuntime) -> Result<(), Fail> {
+    let (tree, _) = read_expr(rt.alloc(), "1 - a - b\n")?;
+    assert!(rt; is_chain(&tree));
+    Ok(())
+}
+
+#[test]
+fn comparison(rt: HostRuntime) -> Result<(), Fail> {
+    let (tree, behind) = read_expr(rt.alloc(), "a < b < c\n")?;
+    assert_eq!(rt; behind, 3);
+    assert!(rt; is_comparison(&tree));
+    Ok(())
+}
+
+#[test]
+fn machines(rt: HostRuntime) -> Result<(), Fail> {
     assert!(rt; reads_one(rt.alloc())?);
     Ok(())
 }
