@@ -10,7 +10,8 @@ use Rattle.mono_syntax.specs.declared.tree.ClassDef.{ClassDef}
 use Rattle.script_rules.specs.Definitions.{class_named}
 use Rattle.class_types.specs.computed.FoundFaults.{first_from, found}
 use Rattle.class_types.specs.computed.Leading.{marked_at, is_marked, word_fault, recursive_at, leads_now, put_mark, mark, mark_round, visit_mark, visit_marks, unmarked, AreLeading}
-use Rattle.class_types.specs.computed.Made.{place_from, place_in, names_of_classes}
+use Rattle.class_types.specs.computed.Made.{names_of_classes}
+use Rattle.name_places.specs.Places.{place_from, place_in}
 use Rattle.script_rules.specs.Recursion.{Leads, here, through, field_names}
 use Rattle.class_types.proofs.Gets.{some_is, none_some, set-other, get-within}
 use Rattle.class_types.proofs.MadeLaws.{place-of}

@@ -1,7 +1,6 @@
 pub mod MadeTurns
 pub mod OrderTurns
 pub mod Gets
-pub mod FirstLaws
 pub mod RoundLaws
 pub mod MadeLaws
 pub mod WritesLaws

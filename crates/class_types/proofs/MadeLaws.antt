@@ -13,7 +13,8 @@ use Rattle.mono_syntax.specs.Ty.{Ty, fun, Tys, more_tys, Fields, no_fields, more
 use Rattle.mono_tree.specs.Meet.{both}
 use Rattle.script_rules.specs.Definitions.{class_named}
 use Rattle.script_rules.specs.Writes.{put_field, in_order}
-use Rattle.class_types.specs.computed.Made.{place_from, place_in, known_at, look, type_by, types_by, fields_by, class_by, object_of, names_of_classes}
+use Rattle.class_types.specs.computed.Made.{known_at, look, type_by, types_by, fields_by, class_by, object_of, names_of_classes}
+use Rattle.name_places.specs.Places.{place_from, place_in}
 use Rattle.class_types.proofs.Gets.{some_is, none_some}
 use Rattle.class_types.proofs.RoundLaws.{Below, Grows}
 

@@ -16,7 +16,8 @@ use Rattle.mono_tree.specs.Meet.{both}
 use Rattle.script_rules.specs.Writes.{put_field, in_order}
 use Rattle.mono_tree.specs.declared.size.Size.{Size}
 use Rattle.mono_tree.proofs.SizeLaws.{capped, joined-capped, grown-capped, capped-same}
-use Rattle.class_types.specs.computed.Made.{place_in, known_at, look, type_by, types_by, fields_by, class_by, any_by, params_by, function_by, object_of}
+use Rattle.class_types.specs.computed.Made.{known_at, look, type_by, types_by, fields_by, class_by, any_by, params_by, function_by, object_of}
+use Rattle.name_places.specs.Places.{place_in}
 use Rattle.mono_tree.specs.computed.CountedSizes.{measured, joined, grown}
 use Rattle.class_types.specs.computed.Measured.{size_by, sizes_onto, fields_onto, class_size_by, any_size_by, params_onto, function_size_by}
 use Rattle.class_types.specs.computed.Rounds.{fill, filled, round, unknown}

@@ -1,10 +1,11 @@
 -- New names, one after the other, are the names where they first stand.
 use Rattle.std.proofs.Common.{◌≡◌, ◌∙◌, sym, ap, refl, ℕ, suc, ◌+◌, ◌-◌, ◌<◌, ◌≤◌, Bool, true, false, List, [], ◌∷◌, ◌++◌, length, map, drop, get_or, arith, Bor}
-use Rattle.std.specs.Prelude.{◌||◌, not, filter, bytes_eq, if◌then◌else◌, Option, slice_get}
+use Rattle.std.specs.Prelude.{◌||◌, not, filter, is_some, bytes_eq, if◌then◌else◌, Option, Some, slice_get}
 use Rattle.std.proofs.lemmas.Slice.Eq.{bytes_eq-Decides}
 use Rattle.mono_syntax.specs.Limits.{most_names}
 use Rattle.mono_syntax.specs.declared.leaf.Word.{Word}
 use Rattle.class_types.specs.computed.NewNames.{known, new_words}
+use Rattle.name_places.specs.Places.{place_from, place_in}
 use Rattle.script_rules.specs.SourceParts.{first_words}
 use Rattle.class_types.proofs.MadeTurns.{next}
 
@@ -107,3 +108,26 @@ crowded-next xs i x seen more n m target h is fresh push within room count inv =
         → slice_get (new_words (map (λ w. w.now) seen ++ x.now ∷ []) (map (λ w. w.now) (drop (i + 1) xs))) (most_names - m)
         ≡ slice_get (new_words (map (λ w. w.now) seen) (x.now ∷ map (λ w. w.now) (drop (i + 1) xs))) (most_names - n)
     go e l = rw (e, l) refl
+
+-- ---- names that are found by their first place
+
+known-from : (ws : List Word) (x : List ℕ) (i : ℕ) → is_some (place_from i (map (λ w. w.text) ws) x) ≡ known ws x
+known-from [] x i = refl
+known-from (w ∷ ws) x i = go (bytes_eq w.text x) (known-from ws x (i + 1))
+  where
+    go : (b : Bool) → is_some (place_from (i + 1) (map (λ v. v.text) ws) x) ≡ known ws x
+        → is_some (if b then Some i else place_from (i + 1) (map (λ v. v.text) ws) x) ≡ (b || known ws x)
+    go true h = refl
+    go false h = h
+
+pub known-placed : (ns : List (List ℕ)) (ws : List Word) (x : List ℕ) → ns ≡ map (λ w. w.text) ws → is_some (place_in ns x) ≡ known ws x
+known-placed ns ws x e = ap (λ l. is_some (place_in l x)) e ∙ known-from ws x 0
+
+pub texts-push : (ns more : List (List ℕ)) (seen new : List (Bor Word)) (x : Bor Word) (n : List ℕ) → ns ≡ map (λ w. w.text) (map (λ w. w.now) seen)
+    → new ≡ seen ++ x ∷ [] → n ≡ x.now.text → more ≡ ns ++ n ∷ [] → more ≡ map (λ w. w.text) (map (λ w. w.now) new)
+texts-push ns more seen new x n e push is pushed =
+    pushed ∙ (ap (λ l. l ++ n ∷ []) e ∙ (ap (λ m. map (λ w. w.text) (map (λ w. w.now) seen) ++ m ∷ []) is ∙ (go seen ∙ ap (λ l. map (λ w. w.text) (map (λ w. w.now) l)) (sym push))))
+  where
+    go : (l : List (Bor Word)) → map (λ w. w.text) (map (λ w. w.now) l) ++ x.now.text ∷ [] ≡ map (λ w. w.text) (map (λ w. w.now) (l ++ x ∷ []))
+    go [] = refl
+    go (z ∷ l) = ap (λ r. z.now.text ∷ r) (go l)

@@ -1,6 +1,6 @@
 -- Types and their positions in a list that grows.
 use Rattle.std.proofs.Common.{◌≡◌, ◌∙◌, sym, ap, subst, refl, ℕ, zero, suc, ◌+◌, ◌<◌, List, [], ◌∷◌, ◌++◌, length, take, get_or, arith, append_assoc, inl, inr}
-use Rattle.std.specs.Prelude.{Option, Some, None, Contains, slice_get}
+use Rattle.std.specs.Prelude.{Option, Some, None, ◌⊎◌, Contains, slice_get}
 use Rattle.std.proofs.lemmas.List.{take_more}
 use Rattle.std.proofs.lemmas.List.Elements.{Contains-push_cases}
 use Rattle.mono_syntax.specs.declared.leaf.TyAt.{TyAt}
@@ -121,3 +121,8 @@ stand-next types more own i x t at next a small is some h b e n =
     subst (StandAt more (take (i + 1) own)) (sym n) (subst (λ l. StandAt more l (at ++ a ∷ [])) (sym longer) (stand-push more (take i own) at t a (stand-more types more (take i own) at b h) e))
 
 pub ruleset place_steps = (begins-refl, begins-push, get-last, distinct-push, no-contains)
+
+-- where a type stands in the list or at its end, the old list is the beginning of the new one
+pub placed-begins : (ts : List Ty) (t : Ty) (us : List Ty) → (us ≡ ts) ⊎ ((Contains ts t → ⊥) × (us ≡ ts ++ t ∷ [])) → Begins ts us
+placed-begins ts t us (inl e) = subst (λ (l : List Ty). Begins ts l) (sym e) (begins-refl ts)
+placed-begins ts t us (inr e) = begins-push ts us t e.1

@@ -9,7 +9,8 @@ use Rattle.mono_syntax.specs.declared.tree.ClassDef.{ClassDef}
 use Rattle.script_rules.specs.FirstFault.{no_later}
 use Rattle.script_rules.specs.Recursion.{Leads, here, through, field_names}
 use Rattle.class_types.specs.computed.Leading.{recursive_at, IsCovered}
-use Rattle.class_types.specs.computed.Made.{place_in, names_of_classes}
+use Rattle.class_types.specs.computed.Made.{names_of_classes}
+use Rattle.name_places.specs.Places.{place_in}
 use Rattle.class_types.specs.computed.Ranks.{rank_at, rank_of, rises, is_before, may_be_first, NeverRise}
 use Rattle.class_types.proofs.Gets.{some_is, get-within}
 use Rattle.class_types.proofs.LeadingLaws.{class-at, at-class}

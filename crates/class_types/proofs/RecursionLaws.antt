@@ -8,7 +8,8 @@ use Rattle.mono_syntax.specs.declared.tree.ClassDef.{ClassDef}
 use Rattle.script_rules.specs.FirstFault.{no_later, IsFirst, IsFaultless}
 use Rattle.class_types.specs.computed.FoundFaults.{found}
 use Rattle.class_types.specs.computed.Leading.{word_fault, recursive_at, IsCovered, AreLeading, LeadsBack, AddsFaults}
-use Rattle.class_types.specs.computed.Made.{place_in, names_of_classes}
+use Rattle.class_types.specs.computed.Made.{names_of_classes}
+use Rattle.name_places.specs.Places.{place_in}
 use Rattle.class_types.specs.computed.Ranks.{may_be_first, NeverRise}
 use Rattle.script_rules.specs.Recursion.{field_names, RecursionFault, IsRecursive}
 use Rattle.class_types.proofs.Gets.{some_is, none_some, get-within}

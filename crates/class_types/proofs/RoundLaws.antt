@@ -3,7 +3,8 @@ use Rattle.std.proofs.Common.{◌≡◌, ◌∙◌, sym, ap, subst, refl, ℕ, z
 use Rattle.std.specs.Prelude.{◌⊎◌, Option, Some, None, slice_get, slice_set}
 use Rattle.std.proofs.lemmas.Bool.{cases_eq}
 use Rattle.mono_syntax.specs.declared.tree.ClassDef.{ClassDef}
-use Rattle.class_types.specs.computed.Made.{look, place_in, known_at}
+use Rattle.class_types.specs.computed.Made.{look, known_at}
+use Rattle.name_places.specs.Places.{place_in}
 use Rattle.class_types.specs.computed.Rounds.{Finds, fill, filled, round, unknown, visit_class, visited}
 use Rattle.class_types.proofs.Gets.{some_is, none_some, set-same, set-other, map-at}
 

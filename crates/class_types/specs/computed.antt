@@ -1,5 +1,4 @@
 pub mod Made
-pub mod Firsts
 pub mod Rounds
 pub mod Order
 pub mod NewNames

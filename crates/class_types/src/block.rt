@@ -1,4 +1,5 @@
-ghost use Rattle.std.specs.Prelude.{◌≡◌, ◌++◌, [], map, length, slice_get, IfOk};
+ghost use Rattle.std.specs.Prelude.{◌≡◌, ◌++◌, List, [], map, length, slice_get, IfOk};
+ghost use Rattle.mono_syntax.specs.declared.leaf.Word.{Word};
 ghost use Rattle.mono_syntax.specs.Limits.{most_names};
 ghost use Rattle.mono_syntax.specs.StmtView.{block, branches, else_block};
 ghost use Rattle.class_types.specs.computed.FoundFaults.{first_from, name_fault};
@@ -10,6 +11,7 @@ use crate::first::sooner;
 use mono_syntax::{
     Branch, FuncDef, Item, MOST_NAMES, Name, Param, Reason, Refusal, Stmt, StmtKind, Word,
 };
+use name_places::NamePlaces;
 use sqlite_items::Items;
 use std::alloc::{AllocError, Global};
 
@@ -97,18 +99,13 @@ fn named<'a>(mut words: Vec<&'a Word>, params: &'a [Param]) -> Result<Vec<&'a Wo
     Ok(words)
 }
 
-fn is_known(seen: &[&Word], name: &Name) -> bool
-    ensures { result ≡ known (map (λ w. w.now) seen.now) name.now }
+fn is_known(names: &NamePlaces, name: &Name) -> bool
+    ensures { (words : List Word) → names.now ≡ map (λ w. w.text) words → result ≡ known words name.now }
 {
-    for word in seen {
-        if word.text.as_slice() == name.as_slice() {
-            return true;
-        }
-    }
-    false
+    names.place(name).is_some()
 }
 
-/// A block has over 4,096 names: the next one. The search is linear in the names so far.
+/// A block has over 4,096 names: the next one.
 fn crowded(
     alloc: Global,
     so_far: Option<Refusal>,
@@ -117,8 +114,9 @@ fn crowded(
     ensures { IfOk result (λ r. r ≡ first_from so_far (name_fault (slice_get (new_words [] (map (λ w. w.now) words.now)) most_names))) }
 {
     let mut seen = Vec::new(alloc);
+    let mut names = NamePlaces::new(alloc);
     for word in words {
-        if is_known(seen.as_slice(), &word.text) {
+        if is_known(&names, &word.text) {
             continue;
         }
         if seen.len() == MOST_NAMES {
@@ -126,6 +124,7 @@ fn crowded(
             return Ok(sooner(so_far, Refusal { place, reason }));
         }
         seen.push(*word)?;
+        names = names.push(alloc, &word.text)?;
     }
     Ok(so_far)
 }

@@ -6,14 +6,14 @@ ghost use Rattle.script_rules.specs.SourceParts.{annotation, arguments, callable
 
 use crate::first::sooner;
 use crate::measure::size_of;
-use crate::names::ClassNames;
 use mono_syntax::{Ann, AnnForm, MOST_PARAMETERS, Place, Reason, Refusal};
 use mono_tree::Size;
+use name_places::NamePlaces;
 
 /// The sizes of the types of classes, by the classes' names.
 #[derive(Drop)]
 pub struct Sizes {
-    pub names: ClassNames,
+    pub names: NamePlaces,
     pub own: Vec<Option<Size>>,
 }
 

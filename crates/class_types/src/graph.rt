@@ -2,8 +2,8 @@ ghost use Rattle.std.specs.Prelude.{◌≡◌, ◌++◌, map, IfOk};
 ghost use Rattle.mono_syntax.specs.AnnView.{anns};
 ghost use Rattle.script_rules.specs.Recursion.{names_in, names_in_all, field_names};
 
-use crate::names::ClassNames;
 use mono_syntax::{Ann, AnnForm, ClassDef, FieldDef, Word};
+use name_places::NamePlaces;
 use std::alloc::{AllocError, Global};
 
 /// The words so far, and the names in an annotation.
@@ -79,7 +79,7 @@ impl Graph {
     /// The graph of these classes. Of several classes of one name only the first names others.
     pub fn new(
         alloc: Global,
-        names: &ClassNames,
+        names: &NamePlaces,
         classes: &[&ClassDef],
     ) -> Result<Graph, AllocError> {
         let mut graph = Graph {
@@ -100,7 +100,7 @@ impl Graph {
     fn join(
         &mut self,
         alloc: Global,
-        names: &ClassNames,
+        names: &NamePlaces,
         at: usize,
         class: &ClassDef,
     ) -> Result<(), AllocError> {

@@ -2,16 +2,17 @@ ghost use Rattle.std.specs.Prelude.{◌≡◌, ◌≤◌, ◌↔◌, IsTrue, len
 ghost use Rattle.mono_syntax.specs.AnnView.{anns};
 ghost use Rattle.class_types.specs.computed.FoundFaults.{first_from, found};
 ghost use Rattle.class_types.specs.computed.Leading.{is_marked, word_fault, leads_now, mark, mark_round, visit_mark, visit_marks, unmarked, AreLeading};
-ghost use Rattle.class_types.specs.computed.Made.{names_of_classes, place_in};
+ghost use Rattle.class_types.specs.computed.Made.{names_of_classes};
+ghost use Rattle.name_places.specs.Places.{place_in};
 ghost use Rattle.script_rules.specs.Recursion.{names_in, names_in_all, field_names};
 
 use crate::first::sooner;
-use crate::names::ClassNames;
 use mono_syntax::{Ann, AnnForm, ClassDef, FieldDef, Name, Reason, Refusal, Word};
+use name_places::NamePlaces;
 use std::alloc::{AllocError, Global};
 
 /// Whether a class is the first of its name.
-pub fn is_first(names: &ClassNames, name: &Name, at: usize) -> bool
+pub fn is_first(names: &NamePlaces, name: &Name, at: usize) -> bool
     ensures { IsTrue result ↔ (place_in names.now name.now ≡ Some at) }
 {
     match names.place(name) {
@@ -21,7 +22,7 @@ pub fn is_first(names: &ClassNames, name: &Name, at: usize) -> bool
 }
 
 /// Whether the class of this name is marked.
-fn is_marked(names: &ClassNames, marks: &[bool], name: &Name) -> bool
+fn is_marked(names: &NamePlaces, marks: &[bool], name: &Name) -> bool
     ensures { result ≡ is_marked names.now marks.now name.now }
 {
     match names.place(name) {
@@ -35,7 +36,7 @@ fn is_marked(names: &ClassNames, marks: &[bool], name: &Name) -> bool
 
 /// The name of a marked class.
 fn word_fault(
-    names: &ClassNames,
+    names: &NamePlaces,
     marks: &[bool],
     so_far: Option<Refusal>,
     word: &Word,
@@ -53,7 +54,7 @@ fn word_fault(
 /// The names of marked classes in an annotation.
 #[cycle(named)]
 #[tactic(auto, using(crate::proofs::FoundLaws::found_steps))]
-fn named(names: &ClassNames, marks: &[bool], so_far: Option<Refusal>, ann: &Ann) -> Option<Refusal>
+fn named(names: &NamePlaces, marks: &[bool], so_far: Option<Refusal>, ann: &Ann) -> Option<Refusal>
     ensures { result ≡ found (word_fault names.now marks.now) so_far (names_in ann.now) }
 {
     match &ann.what {
@@ -69,7 +70,7 @@ fn named(names: &ClassNames, marks: &[bool], so_far: Option<Refusal>, ann: &Ann)
 #[cycle(named)]
 #[tactic(auto, using(mono_syntax::proofs::Parts::parts))]
 fn named_all(
-    names: &ClassNames,
+    names: &NamePlaces,
     marks: &[bool],
     so_far: Option<Refusal>,
     list: &[Ann],
@@ -85,7 +86,7 @@ fn named_all(
 
 /// The names of marked classes in the annotations of fields.
 pub fn named_in_fields(
-    names: &ClassNames,
+    names: &NamePlaces,
     marks: &[bool],
     so_far: Option<Refusal>,
     list: &[FieldDef],
@@ -100,7 +101,7 @@ pub fn named_in_fields(
 }
 
 /// Whether a class has this name, or a field that names a marked class.
-fn leads_now(names: &ClassNames, marks: &[bool], target: &Name, class: &ClassDef) -> bool
+fn leads_now(names: &NamePlaces, marks: &[bool], target: &Name, class: &ClassDef) -> bool
     ensures { result ≡ leads_now names.now marks.now target.now class.now }
 {
     class.name.text.as_slice() == target.as_slice()
@@ -109,7 +110,7 @@ fn leads_now(names: &ClassNames, marks: &[bool], target: &Name, class: &ClassDef
 
 /// The marks so far with that of a class, where it leads to the target.
 fn mark(
-    names: &ClassNames,
+    names: &NamePlaces,
     target: &Name,
     class: &ClassDef,
     mut marks: Vec<bool>,
@@ -129,7 +130,7 @@ fn mark(
 
 /// One round: each class that isn't marked yet is marked where it leads to the target.
 fn mark_round(
-    names: &ClassNames,
+    names: &NamePlaces,
     target: &Name,
     classes: &[&ClassDef],
     marks: Vec<bool>,
@@ -145,7 +146,7 @@ fn mark_round(
 
 /// The class at a place, where one stands there.
 fn visit(
-    names: &ClassNames,
+    names: &NamePlaces,
     target: &Name,
     classes: &[&ClassDef],
     marks: Vec<bool>,
@@ -161,7 +162,7 @@ fn visit(
 
 /// The classes at these places, one after the other.
 fn visited(
-    names: &ClassNames,
+    names: &NamePlaces,
     target: &Name,
     classes: &[&ClassDef],
     order: &[usize],
@@ -203,7 +204,7 @@ fn no_marks(alloc: Global, count: usize) -> Result<Vec<bool>, AllocError>
 /// are: one, where each class that leads there comes after one that it names.
 pub fn leading(
     alloc: Global,
-    names: &ClassNames,
+    names: &NamePlaces,
     classes: &[&ClassDef],
     target: &Name,
     order: &[usize],

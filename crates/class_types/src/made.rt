@@ -6,11 +6,11 @@ ghost use Rattle.class_types.specs.computed.Made.{look, type_by, types_by, field
 ghost use Rattle.class_types.specs.computed.Order.{place_for};
 ghost use Rattle.script_rules.specs.Writes.{put_field, in_order};
 
-use crate::names::ClassNames;
 use mono_list::Shared;
 use mono_syntax::{
     Ann, AnnForm, ClassDef, Field, FieldDef, FuncDef, Name, Param, Ty, TyKind, Word,
 };
+use name_places::NamePlaces;
 use sqlite_items::Items;
 use std::alloc::{AllocError, Global};
 use std::cmp::Ordering;
@@ -24,7 +24,7 @@ fn whole(alloc: Global, kind: TyKind) -> Result<Option<Shared<Ty>>, AllocError>
 
 /// The type of a class by its name.
 fn class_type(
-    names: &ClassNames,
+    names: &NamePlaces,
     own: &[Option<Shared<Ty>>],
     word: &Word,
 ) -> Result<Option<Shared<Ty>>, AllocError>
@@ -43,7 +43,7 @@ fn class_type(
 #[cycle(made)]
 pub fn type_made(
     alloc: Global,
-    names: &ClassNames,
+    names: &NamePlaces,
     own: &[Option<Shared<Ty>>],
     ann: &Ann,
 ) -> Result<Option<Shared<Ty>>, AllocError>
@@ -72,7 +72,7 @@ pub fn type_made(
 #[tactic(auto, using(mono_syntax::proofs::Parts::parts, crate::proofs::MadeTurns::types_turns))]
 fn types_made(
     alloc: Global,
-    names: &ClassNames,
+    names: &NamePlaces,
     own: &[Option<Shared<Ty>>],
     list: &[Ann],
 ) -> Result<Option<Items<Shared<Ty>>>, AllocError>
@@ -92,7 +92,7 @@ fn types_made(
 #[tactic(auto, using(crate::proofs::MadeTurns::fields_turns))]
 fn fields_made(
     alloc: Global,
-    names: &ClassNames,
+    names: &NamePlaces,
     own: &[Option<Shared<Ty>>],
     list: &[FieldDef],
 ) -> Result<Option<Items<Field>>, AllocError>
@@ -147,7 +147,7 @@ fn in_order(alloc: Global, mut declared: Items<Field>) -> Result<Items<Field>, A
 /// The type of a class, where the types of its fields' classes are known.
 pub fn class_made(
     alloc: Global,
-    names: &ClassNames,
+    names: &NamePlaces,
     own: &[Option<Shared<Ty>>],
     class: &ClassDef,
 ) -> Result<Option<Shared<Ty>>, AllocError>
@@ -163,7 +163,7 @@ pub fn class_made(
 /// The type of an annotation that need not stand: `Dyn` where there is none.
 pub fn type_any(
     alloc: Global,
-    names: &ClassNames,
+    names: &NamePlaces,
     own: &[Option<Shared<Ty>>],
     ann: &Option<Ann>,
 ) -> Result<Option<Shared<Ty>>, AllocError>
@@ -179,7 +179,7 @@ pub fn type_any(
 #[tactic(auto, using(crate::proofs::MadeTurns::params_turns))]
 fn params_made(
     alloc: Global,
-    names: &ClassNames,
+    names: &NamePlaces,
     own: &[Option<Shared<Ty>>],
     params: &[Param],
 ) -> Result<Option<Items<Shared<Ty>>>, AllocError>
@@ -198,7 +198,7 @@ fn params_made(
 /// The declared type of a function.
 pub fn function_made(
     alloc: Global,
-    names: &ClassNames,
+    names: &NamePlaces,
     own: &[Option<Shared<Ty>>],
     function: &FuncDef,
 ) -> Result<Option<Shared<Ty>>, AllocError>

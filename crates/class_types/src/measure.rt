@@ -4,13 +4,13 @@ ghost use Rattle.class_types.specs.computed.Made.{look};
 ghost use Rattle.mono_tree.specs.computed.CountedSizes.{nothing};
 ghost use Rattle.class_types.specs.computed.Measured.{size_by, sizes_onto, fields_onto, class_size_by, any_size_by, params_onto, function_size_by};
 
-use crate::names::ClassNames;
 use mono_syntax::{Ann, AnnForm, ClassDef, FieldDef, FuncDef, Name, Param};
 use mono_tree::Size;
+use name_places::NamePlaces;
 
 /// The size of a class's type by its name; a name of no class counts as `stray`.
 fn class_size(
-    names: &ClassNames,
+    names: &NamePlaces,
     own: &[Option<Size>],
     stray: Option<Size>,
     name: &Name,
@@ -29,7 +29,7 @@ fn class_size(
 /// The size of the type that an annotation writes.
 #[cycle(measure)]
 pub fn size_of(
-    names: &ClassNames,
+    names: &NamePlaces,
     own: &[Option<Size>],
     stray: Option<Size>,
     ann: &Ann,
@@ -50,7 +50,7 @@ pub fn size_of(
 #[cycle(measure)]
 #[tactic(auto, using(mono_syntax::proofs::Parts::parts))]
 fn sizes_of(
-    names: &ClassNames,
+    names: &NamePlaces,
     own: &[Option<Size>],
     stray: Option<Size>,
     list: &[Ann],
@@ -67,7 +67,7 @@ fn sizes_of(
 
 /// The size of a class's type.
 pub fn size_of_class(
-    names: &ClassNames,
+    names: &NamePlaces,
     own: &[Option<Size>],
     stray: Option<Size>,
     class: &ClassDef,
@@ -79,7 +79,7 @@ pub fn size_of_class(
 }
 
 fn size_of_fields(
-    names: &ClassNames,
+    names: &NamePlaces,
     own: &[Option<Size>],
     stray: Option<Size>,
     list: &[FieldDef],
@@ -95,7 +95,7 @@ fn size_of_fields(
 }
 
 fn size_of_any(
-    names: &ClassNames,
+    names: &NamePlaces,
     own: &[Option<Size>],
     stray: Option<Size>,
     ann: &Option<Ann>,
@@ -109,7 +109,7 @@ fn size_of_any(
 }
 
 fn size_of_params(
-    names: &ClassNames,
+    names: &NamePlaces,
     own: &[Option<Size>],
     stray: Option<Size>,
     params: &[Param],
@@ -126,7 +126,7 @@ fn size_of_params(
 
 /// The size of a function's declared type.
 pub fn size_of_function(
-    names: &ClassNames,
+    names: &NamePlaces,
     own: &[Option<Size>],
     stray: Option<Size>,
     function: &FuncDef,

@@ -6,12 +6,12 @@ ghost use Rattle.class_types.specs.computed.Ranks.{rank_of, rises, is_before, ma
 use crate::first::no_later;
 use crate::graph::{Graph, words_of};
 use crate::leading::is_first;
-use crate::names::ClassNames;
 use mono_syntax::{ClassDef, Name, Reason, Refusal, Word};
+use name_places::NamePlaces;
 use std::alloc::{AllocError, Global};
 
 /// The rank of the class of a name.
-fn rank_of(names: &ClassNames, ranks: &[usize], name: &Name) -> usize
+fn rank_of(names: &NamePlaces, ranks: &[usize], name: &Name) -> usize
     ensures { result ≡ rank_of names.now ranks.now name.now }
 {
     match names.place(name) {
@@ -24,7 +24,7 @@ fn rank_of(names: &ClassNames, ranks: &[usize], name: &Name) -> usize
 }
 
 /// Whether one of these words names a class of a higher rank than this one.
-fn rises(names: &ClassNames, ranks: &[usize], name: &Name, words: &[&Word]) -> bool
+fn rises(names: &NamePlaces, ranks: &[usize], name: &Name, words: &[&Word]) -> bool
     ensures { result ≡ rises names.now ranks.now name.now (map (λ w. w.now) words.now) }
 {
     for word in words {
@@ -47,7 +47,7 @@ fn is_before(more: Refusal, so_far: Option<Refusal>) -> bool
 
 /// Whether a class may have a fault before the first so far: a name whose class has no lower rank stands before it.
 pub fn may_be_first(
-    names: &ClassNames,
+    names: &NamePlaces,
     ranks: &[usize],
     name: &Name,
     so_far: Option<Refusal>,
@@ -69,7 +69,7 @@ pub fn may_be_first(
 /// Whether a class names one of a higher rank.
 fn any_rises(
     alloc: Global,
-    names: &ClassNames,
+    names: &NamePlaces,
     classes: &[&ClassDef],
     ranks: &[usize],
 ) -> Result<bool, AllocError>
@@ -91,7 +91,7 @@ fn any_rises(
 /// ones; none is asked of it, and where a rank rose, all classes would have the least.
 pub fn ranks(
     alloc: Global,
-    names: &ClassNames,
+    names: &NamePlaces,
     classes: &[&ClassDef],
     graph: &Graph,
 ) -> Result<Vec<usize>, AllocError>

@@ -8,16 +8,17 @@ ghost use Rattle.script_rules.specs.Recursion.{IsRecursive};
 
 use crate::graph::{Graph, words_of};
 use crate::leading::{is_first, leading, named_in_fields};
-use crate::names::{ClassNames, names_of};
+use crate::names::names_of;
 use crate::ranks::{may_be_first, ranks};
 use crate::settle::classes_of;
 use mono_syntax::{ClassDef, Refusal, Script};
+use name_places::NamePlaces;
 use std::alloc::{AllocError, Global};
 
 /// The classes among which recursive ones are looked for.
 #[derive(Drop)]
 struct Search {
-    names: ClassNames,
+    names: NamePlaces,
     graph: Graph,
     ranks: Vec<usize>,
 }

@@ -4,9 +4,9 @@ ghost use Rattle.class_types.specs.computed.Rounds.{filled, round, unknown};
 ghost use Rattle.script_rules.specs.Definitions.{classes_of};
 
 use crate::made::class_made;
-use crate::names::ClassNames;
 use mono_list::Shared;
 use mono_syntax::{ClassDef, Item, Ty};
+use name_places::NamePlaces;
 use sqlite_items::Items;
 use std::alloc::{AllocError, Global};
 
@@ -26,7 +26,7 @@ pub fn classes_of(alloc: Global, items: &[Item]) -> Result<Vec<&ClassDef>, Alloc
 /// The types so far with that of this class, where it has none yet and its fields give one.
 fn filled(
     alloc: Global,
-    names: &ClassNames,
+    names: &NamePlaces,
     class: &ClassDef,
     mut own: Items<Option<Shared<Ty>>>,
     at: usize,
@@ -47,7 +47,7 @@ fn filled(
 /// One round: each class that has no type yet gets the one that its fields give, where they give one.
 fn round(
     alloc: Global,
-    names: &ClassNames,
+    names: &NamePlaces,
     classes: &[&ClassDef],
     own: Items<Option<Shared<Ty>>>,
 ) -> Result<Items<Option<Shared<Ty>>>, AllocError>
@@ -88,7 +88,7 @@ fn none_known(alloc: Global, count: usize) -> Result<Items<Option<Shared<Ty>>>, 
 /// types of all classes whose fields have theirs, so there are no more rounds than types are deep.
 pub fn settled(
     alloc: Global,
-    names: &ClassNames,
+    names: &NamePlaces,
     classes: &[&ClassDef],
 ) -> Result<Items<Option<Shared<Ty>>>, AllocError>
     requires { names.now ≡ names_of_classes (map (λ d. d.now) classes.now) }

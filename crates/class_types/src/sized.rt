@@ -6,15 +6,15 @@ ghost use Rattle.class_types.specs.computed.Measured.{stray_type, class_size_by,
 ghost use Rattle.class_types.specs.computed.Rounds.{filled, round, visit_class, visited};
 
 use crate::measure::size_of_class;
-use crate::names::ClassNames;
 use crate::settle::unknown;
 use mono_syntax::ClassDef;
 use mono_tree::Size;
+use name_places::NamePlaces;
 use std::alloc::{AllocError, Global};
 
 /// The sizes so far with that of this class, where it has none yet and its fields give one.
 fn filled(
-    names: &ClassNames,
+    names: &NamePlaces,
     stray: Option<Size>,
     class: &ClassDef,
     mut own: Vec<Option<Size>>,
@@ -35,7 +35,7 @@ fn filled(
 
 /// One round: each class that has no size yet gets the one that its fields give, where they give one.
 fn round(
-    names: &ClassNames,
+    names: &NamePlaces,
     stray: Option<Size>,
     classes: &[&ClassDef],
     own: Vec<Option<Size>>,
@@ -51,7 +51,7 @@ fn round(
 
 /// The class at a place, where one stands there.
 fn visit(
-    names: &ClassNames,
+    names: &NamePlaces,
     stray: Option<Size>,
     classes: &[&ClassDef],
     own: Vec<Option<Size>>,
@@ -67,7 +67,7 @@ fn visit(
 
 /// The classes at these places, one after the other.
 fn visited(
-    names: &ClassNames,
+    names: &NamePlaces,
     stray: Option<Size>,
     classes: &[&ClassDef],
     order: &[usize],
@@ -96,7 +96,7 @@ fn none_sized(alloc: Global, count: usize) -> Result<Vec<Option<Size>>, AllocErr
 /// decides how many rounds there are.
 pub fn sized(
     alloc: Global,
-    names: &ClassNames,
+    names: &NamePlaces,
     classes: &[&ClassDef],
     stray: Option<Size>,
     order: &[usize],

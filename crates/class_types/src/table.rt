@@ -8,22 +8,24 @@ ghost use Rattle.class_types.specs.computed.Made.{names_of_classes, AreOwnTypes}
 ghost use Rattle.class_types.specs.Holds.{Holds, Extends};
 
 use crate::made::{function_made, type_any, type_made};
-use crate::names::{ClassNames, names_of};
+use crate::names::names_of;
 use crate::place::{Positions, all_placed, base_types, placed};
 use crate::settle::{classes_of, settled};
 use mono_list::Shared;
 use mono_syntax::{Ann, FuncDef, Item, Script, Ty, TyAt};
+use name_places::NamePlaces;
 use sqlite_items::Items;
 use std::alloc::{AllocError, Global};
+use type_list::TypeList;
 
 /// The types of a script, each once: the base types, those of its classes, and what is added. `classes` has the position
 /// of each class's type, in source order.
 #[derive(Drop)]
 pub struct ClassTypes {
     pub script: Script,
-    pub types: Items<Shared<Ty>>,
+    pub types: TypeList,
     pub classes: Items<TyAt>,
-    names: ClassNames,
+    names: NamePlaces,
     own: Items<Option<Shared<Ty>>>,
 }
 
@@ -47,7 +49,7 @@ pub fn class_types(alloc: Global, script: &Script) -> Result<Option<ClassTypes>,
 fn own_types(
     alloc: Global,
     items: &[Item],
-) -> Result<(ClassNames, Items<Option<Shared<Ty>>>), AllocError>
+) -> Result<(NamePlaces, Items<Option<Shared<Ty>>>), AllocError>
     ensures names { IfOk result (λ r. r.0 ≡ names_of_classes (classes_of items.now)) }
     ensures own { IfOk result (λ r. AreOwnTypes (classes_of items.now) r.1) }
 {
@@ -60,7 +62,7 @@ fn own_types(
 fn table(
     script: &Script,
     positions: Positions,
-    names: ClassNames,
+    names: NamePlaces,
     own: Items<Option<Shared<Ty>>>,
 ) -> Result<ClassTypes, AllocError>
     ensures script { IfOk result (λ r. r.script ≡ script.now) }

@@ -1,11 +1,5 @@
-pub mod PartLists
-pub mod Params
 pub mod Matched
 pub mod TraceLaws
-pub mod UseLaws
-pub mod CountLaws
-pub mod RuleLaws
 pub mod TypingLaws
 pub mod LinedLaws
-pub mod EndLaws
 pub mod ScriptLaws

@@ -29,19 +29,22 @@ use Rattle.known_names.specs.declared.known.Known.{Known}
 use Rattle.known_names.specs.declared.known.Local.{Local}
 use Rattle.known_names.specs.IsKnown.{IsKnown, names_in}
 use Rattle.consistency.specs.declared.lines.State.{State}
-use Rattle.consistency.specs.declared.parts.Part.{Part}
+use Rattle.rule_choice.specs.declared.parts.Part.{Part}
 use Rattle.consistency.specs.declared.parts.Parts.{Parts}
 use Rattle.consistency.specs.computed.Checked.{no_parts, with_part, all_typed, typed}
 use Rattle.consistency.specs.computed.Lined.{with_thread, lined, used_line, any_line, first_typed, two_typed, row_typed, return_used, assign_used, write_used, start_used, condition, line_typed, block_typed, branches_typed, else_typed}
-use Rattle.consistency.specs.computed.Ruled.{types_of, first_apart, first_member, first_rule}
-use Rattle.consistency.specs.computed.Steps.{and_then}
+use Rattle.rule_choice.specs.GivenParts.{types_of}
+use Rattle.rule_choice.specs.computed.Ruled.{first_rule}
+use Rattle.rule_choice.specs.computed.Apart.{first_apart}
+use Rattle.rule_choice.specs.computed.Steps.{and_then}
 use Rattle.static_types.proofs.TypeLaws.{all_row, part_row}
 use Rattle.static_types.proofs.UseLaws.{use_row}
-use Rattle.consistency.proofs.CountLaws.{types_count_of, callee_count}
-use Rattle.consistency.proofs.RuleLaws.{IsFirstCalled, first_so, first_member_is}
+use Rattle.rule_choice.proofs.CountLaws.{types_count_of, callee_count}
+use Rattle.rule_choice.proofs.RuleLaws.{IsFirstCalled, first_so}
 use Rattle.consistency.proofs.TraceLaws.{Traced, traced_none, traced_on}
 use Rattle.consistency.proofs.TypingLaws.{ArePartsOf, AreTyped, one_part, and_row, expr_so, all_so}
-use Rattle.consistency.proofs.UseLaws.{AreAt, IsUsed, uses_so}
+use Rattle.rule_choice.specs.GivenParts.{AreAt, IsUsed}
+use Rattle.rule_choice.proofs.UseLaws.{uses_so}
 
 any_consistent : (t : Ty) → Consistent t dyn
 any_consistent t = record { meet = t; is_meet = record { left = reflexive t; right = below_dyn; greatest = λ x f g. f } }
@@ -283,8 +286,8 @@ module _ (cs : List ClassDef) (fs : List FuncDef) (ks : Known) (known : IsKnown 
         line_then (stmt.assign w a e) s (first_typed ks s e) (λ x. assign_used (type_of_name s.local.values w.text) w s.local x) (first_row e s)
         (λ x h. assign_so w a e s (type_of_name s.local.values w.text) refl x h)
     line_so (stmt.write o w e) s =
-        line_then (stmt.write o w e) s (two_typed ks s o e) (λ x. write_used (first_member x.parts w.text) w s.local x) (two_row o e s)
-        (λ x h. write_so o w e s x (first_member x.parts w.text) (first_member_is cs fs ks s.local known x.parts w.text) h)
+        line_then (stmt.write o w e) s (two_typed ks s o e) (λ x. write_used (member_of (types_of x.parts) w.text) w s.local x) (two_row o e s)
+        (λ x h. write_so o w e s x (member_of (types_of x.parts) w.text) refl h)
     line_so (stmt.start w p f es) s =
         line_then (stmt.start w p f es) s (row_typed ks s f es) (λ x. start_used (type_of_name s.local.threads w.text) w p s.local x) (start_row f es s)
         (λ x h. start_so w p f es s x (type_of_name s.local.threads w.text) refl h)

@@ -1,8 +1,7 @@
 -- The parts of an expression that is of this form.
-use Rattle.std.proofs.Common.{◌≡◌, Result, Ok, Err, sym, ap, subst, cond}
+use Rattle.std.proofs.Common.{◌≡◌, Result, Ok, sym, subst, cond}
 use Rattle.std.specs.Prelude.{is_some}
 use Rattle.mono_syntax.specs.declared.refusal.LoadFault.{LoadFault}
-use Rattle.mono_syntax.specs.declared.refusal.LoadFault.TheVariants.{Refused, Memory}
 use Rattle.mono_syntax.specs.Expr.{Expr, Exprs}
 use Rattle.known_names.specs.declared.known.Known.{Known}
 use Rattle.known_names.specs.declared.known.Local.{Local}
@@ -11,8 +10,8 @@ use Rattle.mono_syntax.specs.declared.refusal.Refusal.{Refusal}
 use Rattle.consistency.specs.declared.parts.Parts.{Parts}
 use Rattle.consistency.specs.declared.trace.Trace.{Trace}
 use Rattle.consistency.specs.computed.Checked.{no_parts, with_part, ended, parts_typed, all_typed}
-use Rattle.consistency.specs.computed.Ruled.{called_class}
-use Rattle.consistency.specs.computed.Steps.{and_then}
+use Rattle.rule_choice.specs.computed.Ruled.{called_class}
+use Rattle.rule_choice.specs.computed.Steps.{and_then}
 
 module _ (ks : Known) (l : Local) (b : Trace) (r : Result Parts LoadFault) where
   abbrev Two : Expr → Expr → Result Parts Refusal
@@ -33,8 +32,3 @@ module _ (ks : Known) (l : Local) (b : Trace) (r : Result Parts LoadFault) where
       subst (λ (z : Expr). Gives r (parts_typed ks l z b)) (sym is)
       (subst (λ (m : Result Parts Refusal). Gives r m) same
       (subst (λ (z : Exprs). Gives r (Called g z)) second (subst (λ (z : Expr). Gives r (Called z es)) first h)))
-
--- a step that was refused, or had no memory, ends those behind it
-pub stopped : {A B : Type 0} (f : LoadFault) (m : Result A Refusal) (g : A → Result B Refusal) → Gives {A = A} (Err f) m → Gives {A = B} (Err f) (and_then m g)
-stopped (Refused q) m g h = ap (λ z. and_then z g) h
-stopped Memory m g h = tt

@@ -1,7 +1,6 @@
 -- What `check` answers is the typing of the script, or its first fault.
-use Rattle.std.proofs.Common.{◌≡◌, ℕ, ◌+◌, Bool, true, false, cond, List, [], ◌∷◌, ◌++◌, length, inl, inr, Result, Ok, Err, refl, sym, ◌∙◌, ap, subst, append_assoc}
-use Rattle.std.specs.Prelude.{Option, Some, IfOk, IfErr, IsOkUnless, slice_get}
-use Rattle.std.proofs.lemmas.List.{length-append}
+use Rattle.std.proofs.Common.{◌≡◌, Bool, true, false, cond, List, [], ◌∷◌, ◌++◌, inl, inr, Result, Ok, Err, refl, sym, ap, subst}
+use Rattle.std.specs.Prelude.{Option, Some, IfOk, IfErr, IsOkUnless}
 use Rattle.mono_list.proofs.Cases.{split}
 use Rattle.mono_syntax.specs.declared.leaf.TyAt.{TyAt}
 use Rattle.mono_syntax.specs.declared.refusal.LoadFault.{LoadFault}
@@ -18,7 +17,7 @@ use Rattle.mono_syntax.specs.Stmt.{Stmt}
 use Rattle.mono_syntax.specs.StmtView.{block}
 use Rattle.mono_syntax.specs.Ty.{Ty, nil}
 use Rattle.script_rules.specs.Definitions.{functions_of}
-use Rattle.script_rules.specs.Scoping.{IsScope, class_list, function_list}
+use Rattle.script_rules.specs.Scoping.{class_list, function_list}
 use Rattle.static_types.specs.BodyEnds.{may_end}
 use Rattle.static_types.specs.Lines.{TypedLine, TypedBlock}
 use Rattle.static_types.specs.Names.{Names}
@@ -29,23 +28,22 @@ use Rattle.script_rules.specs.LoadFaults.{IsFault, Refuses}
 use Rattle.static_types.specs.Typing.{AllStand, IsTyping}
 use Rattle.static_types.proofs.ScriptLaws.{script_or_fault, script_fault_once}
 use Rattle.known_names.specs.declared.known.Known.{Known}
+use Rattle.known_names.specs.declared.known.KnownScript.{KnownScript}
 use Rattle.known_names.specs.declared.known.Local.{Local}
-use Rattle.known_names.specs.computed.Gathered.{known_in, function_names, main_names}
 use Rattle.known_names.specs.computed.Gives.{Gives}
-use Rattle.known_names.specs.IsKnown.{IsKnown, names_in, IsFunctionLocal}
-use Rattle.known_names.specs.computed.TypeList.{consistent}
-use Rattle.known_names.proofs.KnownLaws.{known_found, function_local, main_local}
+use Rattle.known_names.specs.IsKnown.{IsKnown, names_in, IsFunctionLocal, BodiesKnown, IsKnownScript}
+use Rattle.known_names.specs.computed.TypeTests.{consistent}
 use Rattle.consistency.specs.declared.lines.State.{State}
 use Rattle.consistency.specs.declared.script.Done.{Done}
 use Rattle.consistency.specs.declared.trace.Trace.{Trace}
 use Rattle.consistency.specs.computed.Lined.{line_typed, block_typed}
-use Rattle.consistency.specs.computed.Scripted.{end_at, function_end, body_typed, items_typed, begun, typed_script, checked}
-use Rattle.consistency.specs.computed.Steps.{and_then}
+use Rattle.consistency.specs.computed.Scripted.{end_at, function_end, body_typed, function_typed, items_typed, begun, typed_script, checked}
+use Rattle.rule_choice.specs.computed.Steps.{and_then}
 use Rattle.consistency.proofs.LinedLaws.{Reached, IsLined, BlockOutcome, line_so, block_so}
 use Rattle.consistency.proofs.TraceLaws.{Traced, traced_none, traced_on}
-use Rattle.consistency.proofs.UseLaws.{consistent_is, apart_is}
+use Rattle.rule_choice.proofs.UseLaws.{consistent_is, apart_is}
 
-module _ (d : Scoped) (scope : IsScope d.script d) where
+module _ (d : Scoped) (all_known : KnownScript) (is_known : IsKnownScript d.script all_known) where
   abbrev Cs : List ClassDef
   Cs = class_list d.script
 
@@ -53,10 +51,10 @@ module _ (d : Scoped) (scope : IsScope d.script d) where
   Fs = function_list d.script
 
   abbrev Ks : Known
-  Ks = known_in d
+  Ks = all_known.names
 
   known : IsKnown Cs Fs Ks
-  known = known_found d scope
+  known = is_known.names
 
   abbrev Ns : Local → Names
   Ns l = names_in Cs Fs l
@@ -122,65 +120,50 @@ module _ (d : Scoped) (scope : IsScope d.script d) where
   ItemsOutcome is n (Ok m) = ItemsReached is n m
   ItemsOutcome is n (Err f) = ItemFault (Ns n.state.local) is f
 
-  -- the functions of these items are those behind the ones that were passed
-  record ArePassed (is : List Item) (n : Done) : Type 0 where
-    pub before : List FuncDef
-    pub all : Fs ≡ before ++ functions_of is
-    pub count : length before ≡ n.functions
+  -- what the bodies of the functions of these items may name is behind
+  abbrev AreAhead : List Item → List Local → Type 0
+  AreAhead is ls = BodiesKnown d.script (functions_of is) ls
 
-  next_at : {A : Type 0} (xs : List A) (x : A) (ys : List A) → slice_get (xs ++ x ∷ ys) (length xs) ≡ Some x
-  next_at [] x ys = refl
-  next_at (z ∷ xs) x ys = next_at xs x ys
-
-  this_function : (f : FuncDef) (is : List Item) (n : Done) → ArePassed (item.Def f ∷ is) n → slice_get Fs n.functions ≡ Some f
-  this_function f is n h = rw (h.all, sym h.count) (next_at h.before f (functions_of is))
-
-  one_passed : (f : FuncDef) (is : List Item) (n : Done) (t : State) → ArePassed (item.Def f ∷ is) n → ArePassed is (record { state = t; functions = n.functions + 1 })
-  one_passed f is n t h =
-      record {
-        before = h.before ++ f ∷ [];
-        all = h.all ∙ sym (append_assoc h.before (f ∷ []) (functions_of is));
-        count = length-append h.before (f ∷ []) ∙ ap (λ (k : ℕ). k + 1) h.count;
-      }
-
-  function_behind : (f : FuncDef) (is : List Item) (n : Done) (b : Trace) → BodyReached f n.state.trace b
-      → (r : Result Done Refusal) → ItemsOutcome is (record { state = record { local = n.state.local; trace = b }; functions = n.functions + 1 }) r → ItemsOutcome (item.Def f ∷ is) n r
-  function_behind f is n b h (Ok m) k =
+  function_behind : (f : FuncDef) (is : List Item) (n : Done) (b : Trace) (ls : List Local) → BodyReached f n.state.trace b
+      → (r : Result Done Refusal) → ItemsOutcome is (record { state = record { local = n.state.local; trace = b }; bodies = ls }) r → ItemsOutcome (item.Def f ∷ is) n r
+  function_behind f is n b ls h (Ok m) k =
       record { all = h.all ++ k.all; typed = function_item h.typed k.typed refl; traced = traced_on n.state.trace b m.state.trace h.all k.all h.traced k.traced }
-  function_behind f is n b h (Err g) k = behind_function h.typed k
+  function_behind f is n b ls h (Err g) k = behind_function h.typed k
 
-  function_then : (f : FuncDef) (is : List Item) (n : Done) (r : Result Trace Refusal) → FunctionOutcome f n.state.trace r
-      → ((b : Trace) → ItemsOutcome is (record { state = record { local = n.state.local; trace = b }; functions = n.functions + 1 }) (items_typed d Ks (record { state = record { local = n.state.local; trace = b }; functions = n.functions + 1 }) is))
-      → ItemsOutcome (item.Def f ∷ is) n (and_then (and_then r (λ b. Ok (record { state = record { local = n.state.local; trace = b }; functions = n.functions + 1 }))) (λ m. items_typed d Ks m is))
-  function_then f is n (Ok b) h k = function_behind f is n b h (items_typed d Ks (record { state = record { local = n.state.local; trace = b }; functions = n.functions + 1 }) is) (k b)
-  function_then f is n (Err g) h k = in_function h
+  function_then : (f : FuncDef) (is : List Item) (n : Done) (ls : List Local) (r : Result Trace Refusal) → FunctionOutcome f n.state.trace r
+      → ((b : Trace) → ItemsOutcome is (record { state = record { local = n.state.local; trace = b }; bodies = ls }) (items_typed Ks (record { state = record { local = n.state.local; trace = b }; bodies = ls }) is))
+      → ItemsOutcome (item.Def f ∷ is) n (and_then (and_then r (λ b. Ok (record { state = record { local = n.state.local; trace = b }; bodies = ls }))) (λ m. items_typed Ks m is))
+  function_then f is n ls (Ok b) h k = function_behind f is n b ls h (items_typed Ks (record { state = record { local = n.state.local; trace = b }; bodies = ls }) is) (k b)
+  function_then f is n ls (Err g) h k = in_function h
 
   line_behind : (s : Stmt) (is : List Item) (n : Done) (t : State) → Reached Cs Fs Ks known (λ ms all. TypedLine (Ns n.state.local) s ms all) n.state t
-      → (r : Result Done Refusal) → ItemsOutcome is (record { state = t; functions = n.functions }) r → ItemsOutcome (item.Stmt s ∷ is) n r
+      → (r : Result Done Refusal) → ItemsOutcome is (record { state = t; bodies = n.bodies }) r → ItemsOutcome (item.Stmt s ∷ is) n r
   line_behind s is n t h (Ok m) k =
       record { all = h.all ++ k.all; typed = line_item h.typed k.typed refl; traced = traced_on n.state.trace t.trace m.state.trace h.all k.all h.traced k.traced }
   line_behind s is n t h (Err g) k = behind_line h.typed k
 
   line_then : (s : Stmt) (is : List Item) (n : Done) (r : Result State Refusal) → IsLined Cs Fs Ks known s n.state r
-      → ((t : State) → ItemsOutcome is (record { state = t; functions = n.functions }) (items_typed d Ks (record { state = t; functions = n.functions }) is))
-      → ItemsOutcome (item.Stmt s ∷ is) n (and_then (and_then r (λ t. Ok (record { state = t; functions = n.functions }))) (λ m. items_typed d Ks m is))
-  line_then s is n (Ok t) h k = line_behind s is n t h (items_typed d Ks (record { state = t; functions = n.functions }) is) (k t)
+      → ((t : State) → ItemsOutcome is (record { state = t; bodies = n.bodies }) (items_typed Ks (record { state = t; bodies = n.bodies }) is))
+      → ItemsOutcome (item.Stmt s ∷ is) n (and_then (and_then r (λ t. Ok (record { state = t; bodies = n.bodies }))) (λ m. items_typed Ks m is))
+  line_then s is n (Ok t) h k = line_behind s is n t h (items_typed Ks (record { state = t; bodies = n.bodies }) is) (k t)
   line_then s is n (Err g) h k = in_line h
 
   class_behind : (c : ClassDef) (is : List Item) (n : Done) (r : Result Done Refusal) → ItemsOutcome is n r → ItemsOutcome (item.Class c ∷ is) n r
   class_behind c is n (Ok m) h = record { all = h.all; typed = class_item h.typed; traced = h.traced }
   class_behind c is n (Err g) h = behind_class h
 
-  items_so : (is : List Item) (n : Done) → ArePassed is n → ItemsOutcome is n (items_typed d Ks n is)
+  function_so : (f : FuncDef) (is : List Item) (n : Done) (ls : List Local) → AreAhead (item.Def f ∷ is) ls → ((m : Done) → AreAhead is m.bodies → ItemsOutcome is m (items_typed Ks m is))
+      → ItemsOutcome (item.Def f ∷ is) n (and_then (function_typed Ks n.state ls f) (λ m. items_typed Ks m is))
+  function_so f is n [] h rest = absurd h
+  function_so f is n (l ∷ ls) h rest =
+      function_then f is n ls (body_typed Ks l f n.state.trace) (body_so f l n.state.trace h.0) (λ b. rest (record { state = record { local = n.state.local; trace = b }; bodies = ls }) h.1)
+
+  items_so : (is : List Item) (n : Done) → AreAhead is n.bodies → ItemsOutcome is n (items_typed Ks n is)
   items_so [] n h = record { all = []; typed = no_item; traced = traced_none n.state.trace }
-  items_so (item.Class c ∷ is) n h = class_behind c is n (items_typed d Ks n is) (items_so is n (record { before = h.before; all = h.all; count = h.count }))
-  items_so (item.Def f ∷ is) n h =
-      let l = function_names d n.functions in
-      function_then f is n (body_typed Ks l f n.state.trace) (body_so f l n.state.trace (function_local d n.functions f scope (this_function f is n h)))
-      (λ b. items_so is (record { state = record { local = n.state.local; trace = b }; functions = n.functions + 1 }) (one_passed f is n (record { local = n.state.local; trace = b }) h))
+  items_so (item.Class c ∷ is) n h = class_behind c is n (items_typed Ks n is) (items_so is n h)
+  items_so (item.Def f ∷ is) n h = function_so f is n n.bodies h (λ m k. items_so is m k)
   items_so (item.Stmt s ∷ is) n h =
-      line_then s is n (line_typed Ks n.state s) (line_so Cs Fs Ks known s n.state)
-      (λ t. items_so is (record { state = t; functions = n.functions }) (record { before = h.before; all = h.all; count = h.count }))
+      line_then s is n (line_typed Ks n.state s) (line_so Cs Fs Ks known s n.state) (λ t. items_so is (record { state = t; bodies = n.bodies }) h)
 
   -- ---- the script
 
@@ -188,37 +171,37 @@ module _ (d : Scoped) (scope : IsScope d.script d) where
   IsChecked (Ok p) = IsTyping d p
   IsChecked (Err f) = IsTypeFault d.script f
 
-  whole_so : (r : Result Done Refusal) → ItemsOutcome d.script.items (begun d) r → IsChecked (and_then r (λ n. Ok (typed_script d n)))
+  whole_so : (r : Result Done Refusal) → ItemsOutcome d.script.items (begun all_known.main all_known.bodies) r → IsChecked (and_then r (λ n. Ok (typed_script d n)))
   whole_so (Ok n) h =
       record {
         scoped = refl;
         distinct = h.traced.grows.distinct tt;
         all = h.all;
         stand = subst (λ (z : List TyAt). AllStand n.state.trace.types z h.all) (sym h.traced.exprs) h.traced.stand;
-        types = record { names = Ns (main_names d); behind = Ns n.state.local; scope = main_local d scope; items = h.typed };
+        types = record { names = Ns all_known.main; behind = Ns n.state.local; scope = is_known.main; items = h.typed };
       }
-  whole_so (Err f) h = record { names = Ns (main_names d); scope = main_local d scope; fault = h }
+  whole_so (Err f) h = record { names = Ns all_known.main; scope = is_known.main; fault = h }
 
-  pub checked_so : IsChecked (checked d)
-  checked_so = whole_so (items_typed d Ks (begun d) d.script.items) (items_so d.script.items (begun d) (record { before = []; all = refl; count = refl }))
+  pub checked_so : IsChecked (checked d all_known)
+  checked_so = whole_so (items_typed Ks (begun all_known.main all_known.bodies) d.script.items) (items_so d.script.items (begun all_known.main all_known.bodies) is_known.bodies)
 
   -- ---- what the call answers
 
-  pub answer_accepted : (r : Result Typed LoadFault) → Gives r (checked d) → IfOk r (IsTyping d)
+  pub answer_accepted : (r : Result Typed LoadFault) → Gives r (checked d all_known) → IfOk r (IsTyping d)
   answer_accepted (Ok p) h = subst (λ (z : Result Typed Refusal). IsChecked z) h checked_so
   answer_accepted (Err f) h = tt
 
-  pub answer_refused : (r : Result Typed LoadFault) → Gives r (checked d) → IfErr r (IsFault (IsTypeFault d.script))
+  pub answer_refused : (r : Result Typed LoadFault) → Gives r (checked d all_known) → IfErr r (IsFault (IsTypeFault d.script))
   answer_refused (Ok p) h = tt
   answer_refused (Err (Refused f)) h = subst (λ (z : Result Typed Refusal). IsChecked z) h checked_so
   answer_refused (Err Memory) h = tt
 
-  pub answer_accepts : (r : Result Typed LoadFault) → Gives r (checked d) → (p : Typed) → IsTyping d p → IsOkUnless r Memory
+  pub answer_accepts : (r : Result Typed LoadFault) → Gives r (checked d all_known) → (p : Typed) → IsTyping d p → IsOkUnless r Memory
   answer_accepts (Ok q) h p t = tt
   answer_accepts (Err (Refused f)) h p t = absurd (script_or_fault d.script t.all f t.types (subst (λ (z : Result Typed Refusal). IsChecked z) h checked_so))
   answer_accepts (Err Memory) h p t = refl
 
-  pub answer_refuses : (r : Result Typed LoadFault) → Gives r (checked d) → (f : Refusal) → IsTypeFault d.script f → Refuses r f
+  pub answer_refuses : (r : Result Typed LoadFault) → Gives r (checked d all_known) → (f : Refusal) → IsTypeFault d.script f → Refuses r f
   answer_refuses (Ok q) h f k = let t = subst (λ (z : Result Typed Refusal). IsChecked z) h checked_so in absurd (script_or_fault d.script t.all f t.types k)
   answer_refuses (Err (Refused g)) h f k = inl (ap (λ (z : Refusal). Refused z) (script_fault_once d.script g f (subst (λ (z : Result Typed Refusal). IsChecked z) h checked_so) k))
   answer_refuses (Err Memory) h f k = inr refl

@@ -4,7 +4,7 @@ use Rattle.std.proofs.lemmas.List.{append-nil}
 use Rattle.mono_syntax.specs.declared.leaf.TyAt.{TyAt}
 use Rattle.mono_syntax.specs.Ty.{Ty}
 use Rattle.known_names.specs.computed.TypeList.{with_type}
-use Rattle.known_names.proofs.TypeListLaws.{Keeps, Grows, stays, grows_on, is_placed}
+use Rattle.known_names.proofs.TypeListLaws.{Keeps, Grows, stays, grows_on, is_placed, grown}
 use Rattle.consistency.specs.declared.trace.Trace.{Trace}
 use Rattle.static_types.specs.Typing.{AllStand}
 use Rattle.consistency.specs.computed.Traces.{with_expr}
@@ -43,4 +43,4 @@ traced_on b x y us vs h k =
 pub traced_push : (b : Trace) (t : Ty) → Traced b (with_expr b t) (t ∷ [])
 traced_push b t =
     let p = is_placed b.types t in
-    record { grows = p.grows; more = (with_type b.types t).at ∷ []; exprs = refl; stand = (p.at, tt) }
+    record { grows = grown b.types t; more = (with_type b.types t).at ∷ []; exprs = refl; stand = (p.at, tt) }

@@ -20,20 +20,22 @@ use Rattle.static_types.specs.Types.{Types, has_type, TypeAll, of_none, of_more}
 use Rattle.known_names.specs.declared.known.Known.{Known}
 use Rattle.known_names.specs.declared.known.KnownClass.{KnownClass}
 use Rattle.known_names.specs.declared.known.Local.{Local}
-use Rattle.known_names.specs.IsKnown.{IsKnown, names_in}
-use Rattle.known_names.proofs.Classes.{SameClass}
-use Rattle.consistency.specs.declared.parts.Part.{Part}
+use Rattle.known_names.specs.IsKnown.{IsKnown, IsSameClass, names_in}
+use Rattle.rule_choice.specs.declared.parts.Part.{Part}
 use Rattle.consistency.specs.declared.parts.Parts.{Parts}
 use Rattle.consistency.specs.declared.parts.Whole.{Whole}
 use Rattle.consistency.specs.declared.trace.Trace.{Trace}
-use Rattle.consistency.specs.computed.Ruled.{types_of, called_class, first_apart, ruled}
+use Rattle.rule_choice.specs.GivenParts.{types_of}
+use Rattle.rule_choice.specs.computed.Ruled.{called_class, ruled}
+use Rattle.rule_choice.specs.computed.Apart.{first_apart}
 use Rattle.consistency.specs.computed.Checked.{no_parts, with_part, finished, ended, parts_typed, all_typed, typed}
-use Rattle.consistency.specs.computed.Steps.{and_then}
+use Rattle.rule_choice.specs.computed.Steps.{and_then}
 use Rattle.consistency.specs.computed.Traces.{with_expr}
-use Rattle.consistency.proofs.CountLaws.{types_count_of, asks_count}
-use Rattle.consistency.proofs.RuleLaws.{IsRuled, HasParts, same_called, ruled_so}
+use Rattle.rule_choice.proofs.CountLaws.{types_count_of, asks_count}
+use Rattle.rule_choice.proofs.RuleLaws.{IsRuled, same_called, ruled_so}
 use Rattle.consistency.proofs.TraceLaws.{Traced, traced_none, traced_on, traced_push}
-use Rattle.consistency.proofs.UseLaws.{AreAt, IsUsed, uses_so}
+use Rattle.rule_choice.specs.GivenParts.{AreAt, IsUsed}
+use Rattle.rule_choice.proofs.UseLaws.{uses_so}
 
 module _ (cs : List ClassDef) (fs : List FuncDef) (ks : Known) (l : Local) (known : IsKnown cs fs ks) where
   abbrev Ns : Names
@@ -119,26 +121,6 @@ module _ (cs : List ClassDef) (fs : List FuncDef) (ks : Known) (l : Local) (know
   and_row es gs done (Ok x) g h k = two_rows es gs done x (g x) h (k x)
   and_row es gs done (Err f) g h k = fault_more es gs f h
 
-  -- the operands of an operator are two
-  has_parts : (e : Expr) (xs : List Part) → AreAt (parts cs e) xs → HasParts cs fs ks l known e xs
-  has_parts (expr.local w) xs h = tt
-  has_parts (expr.number p n) xs h = tt
-  has_parts (expr.text p x) xs h = tt
-  has_parts (expr.truth p b) xs h = tt
-  has_parts (expr.nil p) xs h = tt
-  has_parts (expr.neg p a) xs h = tt
-  has_parts (expr.negation p a) xs h = tt
-  has_parts (expr.both a b) xs h = tt
-  has_parts (expr.either a b) xs h = tt
-  has_parts (expr.read a w) xs h = tt
-  has_parts (expr.call p g es) xs h = tt
-  has_parts (expr.cast p a e) xs h = tt
-  has_parts (expr.join p w) xs h = tt
-  has_parts (expr.binary o p a b) (x ∷ y ∷ []) h = tt
-  has_parts (expr.binary o p a b) [] h = absurd h
-  has_parts (expr.binary o p a b) (x ∷ []) h = absurd h.1
-  has_parts (expr.binary o p a b) (x ∷ y ∷ z ∷ xs) h = absurd h.1.1
-
   -- ---- an expression from its parts
 
   whole_used : (e : Expr) (b : Trace) (x : Parts) (h : ArePartsOf (parts cs e) (no_parts b) x) (r : Rule) → RuleOf Ns e (types_of x.parts) r → TypeAll Ns (parts cs e) (types_of x.parts) h.all
@@ -163,8 +145,7 @@ module _ (cs : List ClassDef) (fs : List FuncDef) (ks : Known) (l : Local) (know
 
   whole_so : (e : Expr) (b : Trace) (r : Result Parts Refusal) → AreTyped (parts cs e) (no_parts b) r → IsTyped e b (ended ks l e r)
   whole_so e b (Ok x) h =
-      let places = subst (λ (z : List Part). AreAt (parts cs e) z) (sym h.parts) h.places in
-      whole_ruled e b x h (ruled ks l e x.parts) (ruled_so cs fs ks l known e x.parts (has_parts e x.parts places))
+      whole_ruled e b x h (ruled ks l e x.parts) (ruled_so cs fs ks l known e x.parts)
   whole_so e b (Err f) h = in_part h
 
   -- ---- expressions
@@ -173,7 +154,7 @@ module _ (cs : List ClassDef) (fs : List FuncDef) (ks : Known) (l : Local) (know
   CallRow o k f es b =
       AreTyped (call_parts o f (exprs_list es)) (no_parts b) (and_then (cond (is_some k) (Ok (no_parts b)) (with_part (no_parts b) f (typed ks l f b))) (λ x. all_typed ks l x es))
 
-  call_row : (o : Option ClassDef) (k : Option KnownClass) (f : Expr) (es : Exprs) (b : Trace) → SameClass cs o k → IsTyped f b (typed ks l f b)
+  call_row : (o : Option ClassDef) (k : Option KnownClass) (f : Expr) (es : Exprs) (b : Trace) → IsSameClass cs o k → IsTyped f b (typed ks l f b)
       → ((x : Parts) → AreTyped (exprs_list es) x (all_typed ks l x es)) → CallRow o k f es b
   call_row (Some d) (Some k) f es b s h g = g (no_parts b)
   call_row None None f es b s h g = and_row (f ∷ []) (exprs_list es) (no_parts b) (with_part (no_parts b) f (typed ks l f b)) (λ x. all_typed ks l x es) (one_part (no_parts b) f (typed ks l f b) h) g
@@ -205,7 +186,7 @@ module _ (cs : List ClassDef) (fs : List FuncDef) (ks : Known) (l : Local) (know
     parts_so (expr.either a c) b =
         two_parts a c b (whole_so a b (parts_typed ks l a b) (parts_so a b)) (λ x. whole_so c x.trace (parts_typed ks l c x.trace) (parts_so c x.trace))
     parts_so (expr.call p f es) b =
-        call_row (class_called cs f) (called_class ks.classes f) f es b (same_called cs fs ks l known f) (whole_so f b (parts_typed ks l f b) (parts_so f b)) (λ x. all_so es x)
+        call_row (class_called cs f) (called_class ks.classes f) f es b (same_called cs fs ks known f) (whole_so f b (parts_typed ks l f b) (parts_so f b)) (λ x. all_so es x)
 
     pub all_so : (es : Exprs) (x : Parts) → AreTyped (exprs_list es) x (all_typed ks l x es)
     all_so no_exprs x = no_more x

@@ -2,15 +2,14 @@ ghost use Rattle.std.specs.Prelude.{Ok, is_some, if◌then◌else◌};
 ghost use Rattle.mono_syntax.specs.ExprView.{exprs};
 ghost use Rattle.known_names.specs.computed.Gives.{Gives};
 ghost use Rattle.consistency.specs.computed.Checked.{no_parts, with_part, whole, ended, parts_typed, all_typed, typed};
-ghost use Rattle.consistency.specs.computed.Ruled.{called_class};
-ghost use Rattle.consistency.specs.computed.Steps.{and_then};
+ghost use Rattle.rule_choice.specs.computed.Ruled.{called_class};
+ghost use Rattle.rule_choice.specs.computed.Steps.{and_then};
 
-use crate::parts::{Part, Parts, Whole, finished, first_apart, no_parts};
-use crate::places::place_of;
-use crate::rules::{called_class, rule_of};
+use crate::parts::{Parts, Whole, finished, no_parts};
 use crate::trace::Trace;
 use known_names::{Known, Local};
 use mono_syntax::{Expr, ExprKind, LoadFault};
+use rule_choice::{Part, called_class, first_apart, place_of, rule_of};
 use std::alloc::Global;
 
 /// An expression whose parts have their types.

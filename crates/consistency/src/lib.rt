@@ -2,12 +2,9 @@
 //! expressions, or the first fault of typing; the contract says that both are what the rules of typing give.
 #![tactic(auto)]
 
-mod endings;
 mod expressions;
 mod lines;
 mod parts;
-mod places;
-mod rules;
 mod script;
 mod trace;
 

@@ -8,18 +8,17 @@ ghost use Rattle.static_types.specs.Lines.{returned};
 ghost use Rattle.known_names.specs.computed.Gives.{Gives};
 ghost use Rattle.consistency.specs.computed.Checked.{all_typed, no_parts};
 ghost use Rattle.consistency.specs.computed.Lined.{with_thread, lined, used_line, any_line, first_typed, two_typed, row_typed, return_used, assign_used, write_used, start_used, condition, line_typed, block_typed, branches_typed, else_typed};
-ghost use Rattle.consistency.specs.computed.Ruled.{first_member};
-ghost use Rattle.consistency.specs.computed.Steps.{and_then};
+ghost use Rattle.rule_choice.specs.computed.Steps.{and_then};
 
 use crate::expressions::{all_typed, with_part};
-use crate::parts::{Part, Parts, first_apart, no_parts};
-use crate::rules::{first_member, first_rule, refused};
+use crate::parts::{Parts, no_parts};
 use crate::trace::{Trace, with_expr};
-use known_names::{Known, Local, new_type, type_of};
+use known_names::{Known, Local, new_type};
 use mono_list::Shared;
 use mono_syntax::{
     Branch, Expr, LoadFault, NamedType, Place, Reason, Stmt, StmtKind, Ty, TyKind, Word,
 };
+use rule_choice::{Part, first_apart, first_member, first_rule, refused};
 use sqlite_items::Items;
 use std::alloc::{AllocError, Global};
 
@@ -192,7 +191,7 @@ fn assign_typed(
 {
     let State { local, trace } = state;
     let parts = first_typed(alloc, known, &local, e, trace)?;
-    let ty = found_type(type_of(local.values.as_slice(), &word.text))?;
+    let ty = found_type(local.values.get(&word.text))?;
     assign_used(alloc, ty, word, local, parts)
 }
 
@@ -231,16 +230,21 @@ fn write_typed(
     write_used(alloc, ty, word, local, parts)
 }
 
-fn with_thread(local: Local, word: &Word, ty: Shared<Ty>) -> Result<Local, AllocError>
+fn with_thread(
+    alloc: Global,
+    local: Local,
+    word: &Word,
+    ty: Shared<Ty>,
+) -> Result<Local, AllocError>
     ensures { IfOk result (λ l. l ≡ with_thread local word.now.text ty) }
 {
     let Local {
         values,
-        mut threads,
+        threads,
         result,
     } = local;
     let name = word.text.share()?;
-    threads.push(NamedType { name, ty })?;
+    let threads = threads.push(alloc, NamedType { name, ty })?;
     Ok(Local {
         values,
         threads,
@@ -257,11 +261,11 @@ fn start_used(
 ) -> Result<State, LoadFault>
     ensures { Gives result (start_used (type_of_name local.threads word.now.text) word.now bracket local parts) }
 {
-    if type_of(local.threads.as_slice(), &word.text).is_some() {
+    if local.threads.get(&word.text).is_some() {
         return Err(refused(word.place, Reason::Twice));
     }
     let rule = first_rule(alloc, bracket, parts.parts.as_slice())?;
-    let local = with_thread(local, word, rule.gives)?;
+    let local = with_thread(alloc, local, word, rule.gives)?;
     used_line(alloc, rule.asks.as_slice(), local, parts)
 }
 

@@ -8,26 +8,22 @@ ghost use Rattle.script_rules.specs.LoadFaults.{IsFault, Refuses};
 ghost use Rattle.static_types.specs.Typing.{IsTyping};
 ghost use Rattle.static_types.specs.Scripts.{IsTypeFault};
 ghost use Rattle.known_names.specs.computed.Gives.{Gives};
-ghost use Rattle.known_names.specs.computed.Gathered.{known_in};
-ghost use Rattle.consistency.specs.computed.Lined.{line_typed};
-ghost use Rattle.consistency.specs.computed.Steps.{and_then};
-ghost use Rattle.consistency.specs.computed.Scripted.{end_at, function_end, body_typed, item_typed, items_typed, no_exprs_yet, begun, typed_script, checked};
+ghost use Rattle.consistency.specs.computed.Scripted.{end_at, function_end, body_typed, function_typed, item_typed, items_typed, no_exprs_yet, begun, typed_script, checked};
 
-use crate::endings::may_end;
 use crate::lines::{State, block_typed, line_typed, shared_type};
-use crate::rules::refused;
 use crate::trace::Trace;
-use known_names::{Known, Local, function_names, is_consistent, known_in, main_names, new_type};
-use mono_list::Shared;
+use known_names::{Known, KnownScript, Local, TypeList, is_consistent, known_in, new_type};
+use mono_list::{Shared, Stack};
 use mono_syntax::{FuncDef, Item, LoadFault, Reason, Scoped, Stmt, Ty, TyKind, Typed};
+use rule_choice::{may_end, refused};
 use sqlite_items::Items;
 use std::alloc::{AllocError, Global};
 
-/// The main block so far, and how many functions were passed.
+/// The main block so far, and what the bodies of the functions to come may name.
 #[derive(Drop)]
 pub struct Done {
     pub state: State,
-    pub functions: usize,
+    pub bodies: Stack<Local>,
 }
 
 /// A function's end, which gives `None`.
@@ -73,67 +69,65 @@ fn body_typed(
     }
 }
 
+/// One more function.
 fn function_typed(
     alloc: Global,
-    scoped: &Scoped,
     known: &Known,
     done: Done,
     function: &FuncDef,
 ) -> Result<Done, LoadFault>
-    requires scope { IsScope scoped.now.script scoped.now }
-    ensures { Gives result (item_typed scoped.now known.now done (item.Def function.now)) }
+    ensures { Gives result (function_typed known.now done.state done.bodies function.now) }
 {
-    let Done { state, functions } = done;
+    let Done { state, mut bodies } = done;
+    match bodies.pop() {
+        Some(names) => function_behind(alloc, known, state, names, bodies, function),
+        // There is one for each function.
+        None => Ok(Done { state, bodies }),
+    }
+}
+
+/// A function whose body may name this.
+fn function_behind(
+    alloc: Global,
+    known: &Known,
+    state: State,
+    names: Local,
+    bodies: Stack<Local>,
+    function: &FuncDef,
+) -> Result<Done, LoadFault>
+    ensures { Gives result (function_typed known.now state (names ∷ bodies) function.now) }
+{
     let State { local, trace } = state;
-    let names = function_names(alloc, scoped, functions)?;
     let trace = body_typed(alloc, known, names, function, trace)?;
-    // There are never as many: a script of 2^20 bytes has no more functions than bytes.
-    let Some(functions) = functions.checked_add(1) else {
-        return Err(LoadFault::Memory);
-    };
     let state = State { local, trace };
-    Ok(Done { state, functions })
+    Ok(Done { state, bodies })
 }
 
 fn statement_typed(alloc: Global, known: &Known, done: Done, s: &Stmt) -> Result<Done, LoadFault>
-    ensures { Gives result (and_then (line_typed known.now done.state s.now) (λ t. Ok (record { state = t; functions = done.functions }))) }
+    ensures { Gives result (item_typed known.now done (item.Stmt s.now)) }
 {
-    let Done { state, functions } = done;
+    let Done { state, bodies } = done;
     let state = line_typed(alloc, known, state, s)?;
-    Ok(Done { state, functions })
+    Ok(Done { state, bodies })
 }
 
-fn item_typed(
-    alloc: Global,
-    scoped: &Scoped,
-    known: &Known,
-    done: Done,
-    item: &Item,
-) -> Result<Done, LoadFault>
-    requires scope { IsScope scoped.now.script scoped.now }
-    ensures { Gives result (item_typed scoped.now known.now done item.now) }
+fn item_typed(alloc: Global, known: &Known, done: Done, item: &Item) -> Result<Done, LoadFault>
+    ensures { Gives result (item_typed known.now done item.now) }
 {
     match item {
         Item::Class(_) => Ok(done),
-        Item::Def(function) => function_typed(alloc, scoped, known, done, function),
+        Item::Def(function) => function_typed(alloc, known, done, function),
         Item::Stmt(s) => statement_typed(alloc, known, done, s),
     }
 }
 
 /// The items of a script in source order.
-fn items_typed(
-    alloc: Global,
-    scoped: &Scoped,
-    known: &Known,
-    start: Done,
-    items: &[Item],
-) -> Result<Done, LoadFault>
-    requires scope { IsScope scoped.now.script scoped.now }
-    ensures { Gives result (items_typed scoped.now known.now start items.now) }
+fn items_typed(alloc: Global, known: &Known, start: Done, items: &[Item]) -> Result<Done, LoadFault>
+    ensures { Gives result (items_typed known.now start items.now) }
 {
     let mut done = start;
     for item in items {
-        done = item_typed(alloc, scoped, known, done, item)?;
+        done = item_typed(alloc, known, done, item)?;
     }
     Ok(done)
 }
@@ -141,46 +135,55 @@ fn items_typed(
 fn no_exprs_yet(alloc: Global) -> Trace
     ensures { result ≡ no_exprs_yet }
 {
-    let types = Items::new(alloc);
+    let types = TypeList::new(alloc);
     let exprs = Items::new(alloc);
     Trace { types, exprs }
 }
 
-fn begun(alloc: Global, scoped: &Scoped) -> Result<Done, AllocError>
-    requires scope { IsScope scoped.now.script scoped.now }
-    ensures { IfOk result (λ done. done ≡ begun scoped.now) }
+fn begun(alloc: Global, main: Local, bodies: Items<Local>) -> Result<Done, AllocError>
+    ensures { IfOk result (λ done. done ≡ begun main bodies) }
 {
-    let local = main_names(alloc, scoped)?;
     let trace = no_exprs_yet(alloc);
-    let state = State { local, trace };
-    Ok(Done {
-        state,
-        functions: 0,
-    })
+    let state = State { local: main, trace };
+    let bodies = Stack::from_items(alloc, bodies)?;
+    Ok(Done { state, bodies })
 }
 
-fn all_typed(alloc: Global, scoped: &Scoped) -> Result<Done, LoadFault>
-    requires scope { IsScope scoped.now.script scoped.now }
-    ensures { Gives result (items_typed scoped.now (known_in scoped.now) (begun scoped.now) scoped.now.script.items) }
+fn all_typed(alloc: Global, scoped: &Scoped, known: KnownScript) -> Result<Done, LoadFault>
+    ensures { Gives result (items_typed known.names (begun known.main known.bodies) scoped.now.script.items) }
 {
-    let known = known_in(alloc, scoped)?;
-    let start = begun(alloc, scoped)?;
+    let KnownScript {
+        names,
+        bodies,
+        main,
+    } = known;
+    let start = begun(alloc, main, bodies)?;
     let items = scoped.script.get().items.get().as_slice();
-    items_typed(alloc, scoped, &known, start, items)
+    items_typed(alloc, &names, start, items)
 }
 
-fn checked(alloc: Global, scoped: &Shared<Scoped>) -> Result<Typed, LoadFault>
-    requires scope { IsScope scoped.now.script scoped.now }
-    ensures { Gives result (checked scoped.now) }
+/// The script with the types of its expressions.
+fn typed_script(alloc: Global, scoped: &Shared<Scoped>, done: Done) -> Result<Typed, AllocError>
+    ensures { IfOk result (λ typed. typed ≡ typed_script scoped.now done) }
 {
-    let done = all_typed(alloc, scoped.get())?;
+    let Done { state, .. } = done;
+    let State { trace, .. } = state;
+    let Trace { types, exprs } = trace;
+    let types = types.shared(alloc)?;
     let scoped = scoped.share()?;
-    let Trace { types, exprs } = done.state.trace;
     Ok(Typed {
         scoped,
         types,
         exprs,
     })
+}
+
+/// The script whose names are known so.
+fn checked(alloc: Global, scoped: &Shared<Scoped>, known: KnownScript) -> Result<Typed, LoadFault>
+    ensures { Gives result (checked scoped.now known) }
+{
+    let done = all_typed(alloc, scoped.get(), known)?;
+    Ok(typed_script(alloc, scoped, done)?)
 }
 
 /// The script with the type of each expression, or its first fault of typing: a value used at a type that has no meet with its
@@ -198,5 +201,6 @@ pub fn check(alloc: Global, scoped: &Shared<Scoped>) -> Result<Typed, LoadFault>
     ensures accepts { (p : Typed) → IsTyping scoped.now p → IsOkUnless result LoadFault.Memory }
     ensures refuses { (r : Refusal) → IsTypeFault scoped.now.script r → Refuses result r }
 {
-    checked(alloc, scoped)
+    let known = known_in(alloc, scoped.get())?;
+    checked(alloc, scoped, known)
 }

@@ -2,7 +2,7 @@ ghost use Rattle.std.specs.Prelude.{Ok};
 ghost use Rattle.known_names.specs.computed.Gives.{Gives};
 ghost use Rattle.consistency.specs.computed.Traces.{with_expr};
 
-use known_names::with_type;
+use known_names::{TypeList, with_type};
 use mono_list::Shared;
 use mono_syntax::{LoadFault, Ty, TyAt};
 use sqlite_items::Items;
@@ -10,7 +10,7 @@ use sqlite_items::Items;
 /// The list of all types so far, and the position of the type of each expression so far, in source order.
 #[derive(Drop)]
 pub struct Trace {
-    pub types: Items<Shared<Ty>>,
+    pub types: TypeList,
     pub exprs: Items<TyAt>,
 }
 

@@ -17,7 +17,15 @@ pub struct Wanted {
     pub holds: String,
 }
 
-/// A case: a script, the limits of its run, the fields that it leaves, and its end.
+/// A row of seeds, from the first to the last.
+#[derive(Clone, Copy)]
+pub struct Seeds {
+    pub first: u64,
+    pub last: u64,
+}
+
+/// A case: a script, the limits of its run, the fields that it leaves, and its end. Where it has seeds, the script is run by each of
+/// them instead, and `prints` is what each run prints, with ` / ` between two lines.
 #[derive(Drop)]
 pub struct Case {
     pub name: String,
@@ -27,6 +35,8 @@ pub struct Case {
     pub print: u64,
     pub cells: Vec<Wanted>,
     pub end: String,
+    pub seeds: Option<Seeds>,
+    pub prints: String,
     /// Each of its lines could be read.
     pub is_read: bool,
 }
@@ -42,6 +52,8 @@ impl Case {
             print: 1_000,
             cells: Vec::new(alloc),
             end: String::from_str(alloc, "done")?,
+            seeds: None,
+            prints: String::new(alloc),
             is_read: true,
         })
     }
@@ -52,6 +64,8 @@ impl Case {
             "script" => self.push_line(value)?,
             "cell" => self.push_cell(alloc, value)?,
             "end" => self.end = String::from_str(alloc, value)?,
+            "prints" => self.prints = String::from_str(alloc, value)?,
+            "seeds" => self.set_seeds(value),
             _ => self.set_limit(key, value),
         }
         Ok(())
@@ -88,6 +102,18 @@ impl Case {
             "fuel" => self.fuel = number,
             "heap" => self.heap = number,
             "print" => self.print = number,
+            _ => self.is_read = false,
+        }
+    }
+
+    /// Takes in a first and a last seed, with a space between.
+    fn set_seeds(&mut self, value: &str) {
+        let Some((first, last)) = value.split_once(' ') else {
+            self.is_read = false;
+            return;
+        };
+        match (first.parse::<u64>(), last.parse::<u64>()) {
+            (Ok(first), Ok(last)) => self.seeds = Some(Seeds { first, last }),
             _ => self.is_read = false,
         }
     }

@@ -1,18 +1,20 @@
 //! Runs the scripts of `cases.txt` on the cast calculus, step by step and with the limits of each case, and looks at the heap
-//! that they leave. For each case goes out a line: that the fields named in the case have the recorded types and values
-//! that it wants, and which end the run has; or how they differ from what the case wants.
+//! that they leave; or in the order of each of a row of seeds, and looks at what they print. For each case goes out a line: that the fields
+//! named in the case have the recorded types and values that it wants, or that the lines are as wanted, and which end the runs have; or
+//! how they differ from what the case wants.
 #![tactic(auto)]
 
 ghost use Rattle.std.specs.Prelude.{◌≤◌, ◌^◌};
+ghost use Rattle.mono_tree.specs.TypedPrograms.{IsTypedProgram};
 
 mod case;
 mod showing;
 
-use case::Case;
+use case::{Case, Seeds};
 use cast_calculus::{Config, Settings, observe, runnable, step};
 use load_script::load;
 use mono_tree::{CastScript, LoadFault};
-use showing::{cell_text, end_text};
+use showing::{cell_text, end_text, lines_text};
 use std::alloc::{AllocError, Global};
 use std::{fs, io};
 
@@ -80,6 +82,67 @@ fn report_run(
     }
 }
 
+/// What a run in the order of a seed prints, and its end.
+fn seeded(
+    alloc: Global,
+    script: &CastScript,
+    settings: Settings,
+    seed: u64,
+) -> Result<(String, String), AllocError>
+    requires typed { IsTypedProgram script.now }
+    requires some { 1 ≤ settings.fuel }
+    requires most { settings.fuel ≤ 2 ^ 40 }
+{
+    let config = Config::new(alloc, script, settings)?;
+    let last = config.run_by_seed(alloc, script, seed)?;
+    let shown = last.observation();
+    let lines = lines_text(alloc, shown.lines.as_slice())?;
+    let end = end_text(alloc, script, shown.end)?;
+    Ok((lines, end))
+}
+
+/// Runs a script by each of a row of seeds, and says whether all runs came out as wanted.
+fn report_seeds(
+    rt: &HostRuntime,
+    script: &CastScript,
+    settings: Settings,
+    case: &Case,
+    seeds: Seeds,
+) -> io::Result<()>
+    requires typed { IsTypedProgram script.now }
+    requires some { 1 ≤ settings.fuel }
+    requires most { settings.fuel ≤ 2 ^ 40 }
+{
+    let name = case.name.as_str();
+    for seed in seeds.first..=seeds.last {
+        let (lines, end) = seeded(rt.alloc(), script, settings, seed)?;
+        if lines.as_str() != case.prints.as_str() || end.as_str() != case.end.as_str() {
+            let lines = lines.as_str();
+            let end = end.as_str();
+            return println!(rt; "{name}: by {seed} {lines}, {end}");
+        }
+    }
+    let end = case.end.as_str();
+    println!(rt; "{name}: ok, {end}")
+}
+
+/// Runs a loaded case.
+fn report_script(
+    rt: &HostRuntime,
+    script: &CastScript,
+    settings: Settings,
+    case: &Case,
+) -> io::Result<()>
+    requires typed { IsTypedProgram script.now }
+    requires some { 1 ≤ settings.fuel }
+    requires most { settings.fuel ≤ 2 ^ 40 }
+{
+    match case.seeds {
+        Some(seeds) => report_seeds(rt, script, settings, case, seeds),
+        None => report_run(rt, script, settings, case),
+    }
+}
+
 /// Runs a case and says whether it came out as wanted.
 fn report(rt: &HostRuntime, case: &Case) -> io::Result<()> {
     let alloc = rt.alloc();
@@ -92,7 +155,7 @@ fn report(rt: &HostRuntime, case: &Case) -> io::Result<()> {
         return println!(rt; "{name}: no such limits");
     };
     match load(alloc, bytes) {
-        Ok(script) => report_run(rt, &script, settings, case),
+        Ok(script) => report_script(rt, &script, settings, case),
         Err(LoadFault::Refused(_)) => println!(rt; "{name}: refused"),
         Err(LoadFault::Memory) => println!(rt; "{name}: no memory"),
     }

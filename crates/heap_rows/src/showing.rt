@@ -1,5 +1,6 @@
 use cast_calculus::{Config, End};
 use mono_tree::{CastScript, Val, type_bytes};
+use sqlite_items::Items;
 use std::alloc::{AllocError, Global};
 
 fn text_of(alloc: Global, bytes: &[u8]) -> Result<String, AllocError> {
@@ -36,6 +37,32 @@ pub fn cell_text(
     let ty = text_of(alloc, ty.as_slice())?;
     let value = value_text(alloc, &cell.value)?;
     format!(in alloc; "{ty} = {value}")
+}
+
+/// The values of a line with a space between.
+fn line_text(alloc: Global, line: &[Val]) -> Result<String, AllocError> {
+    let mut text = String::new(alloc);
+    for value in line {
+        if !text.as_str().is_empty() {
+            text.push_str(" ")?;
+        }
+        let value = value_text(alloc, value)?;
+        text.push_str(value.as_str())?;
+    }
+    Ok(text)
+}
+
+/// The lines that were printed, with ` / ` between two of them.
+pub fn lines_text(alloc: Global, lines: &[Items<Val>]) -> Result<String, AllocError> {
+    let mut text = String::new(alloc);
+    for line in lines {
+        if !text.as_str().is_empty() {
+            text.push_str(" / ")?;
+        }
+        let line = line_text(alloc, line.as_slice())?;
+        text.push_str(line.as_str())?;
+    }
+    Ok(text)
 }
 
 /// The end of a run: `done`, `blame L:C`, `limit: W` for three of the limits, or other words.

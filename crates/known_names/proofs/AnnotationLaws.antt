@@ -21,10 +21,10 @@ use Rattle.script_rules.specs.Writes.{in_order, Writes, writes_dyn, writes_int, 
 use Rattle.known_names.specs.declared.known.Known.{Known}
 use Rattle.known_names.specs.computed.Annotations.{written, written_form, written_all, known_fields}
 use Rattle.known_names.specs.IsKnown.{TypesKnown, IsKnown}
-use Rattle.known_names.specs.computed.TypeList.{type_or_dyn}
+use Rattle.known_names.specs.computed.TypeTests.{type_or_dyn}
 use Rattle.known_names.proofs.Classes.{SameType, same_type}
 use Rattle.known_names.proofs.Steps.{then_some, map_some}
-use Rattle.known_names.proofs.WriteLaws.{declares_once}
+use Rattle.static_types.proofs.Writing.{one_declared}
 
 module _ (cs : List ClassDef) (ns : List NamedType) (known : TypesKnown cs cs ns) where
   -- ---- what is found is written
@@ -72,7 +72,7 @@ module _ (cs : List ClassDef) (ns : List NamedType) (known : TypesKnown cs cs ns
   class_found w d fs t (Some k) (Some u) c f e i j h =
       let same : Some k ≡ Some d = sym i ∙ c in
       let declared = subst (λ (z : ClassDef). Declares cs z.fields h.declared) (some_is same) h.fields in
-      j ∙ ap (λ (z : Ty). Some z) (h.type ∙ ap (λ (z : Fields). obj (in_order z)) (declares_once cs declared f) ∙ sym e)
+      j ∙ ap (λ (z : Ty). Some z) (h.type ∙ ap (λ (z : Fields). obj (in_order z)) (one_declared cs d.fields h.declared fs declared f) ∙ sym e)
   class_found w d fs t (Some k) None c f e i j h = absurd h
   class_found w d fs t None u c f e i j h = none_some (type_of_name ns w.text ≡ Some t) (sym i ∙ c)
 

@@ -11,7 +11,7 @@ use Rattle.script_rules.specs.Definitions.{class_named, function_named}
 use Rattle.script_rules.specs.Writes.{IsClassType, IsFunctionType}
 use Rattle.known_names.specs.declared.known.Known.{Known}
 use Rattle.known_names.specs.declared.known.KnownClass.{KnownClass}
-use Rattle.known_names.specs.IsKnown.{TypesKnown, IsKnownClass, ClassesKnown, FunctionsKnown, IsKnown}
+use Rattle.known_names.specs.IsKnown.{TypesKnown, IsSameClass, ClassesKnown, FunctionsKnown, IsKnown}
 use Rattle.known_names.specs.computed.KnownNames.{known_class}
 
 -- both are there and tell the same, or neither is
@@ -19,11 +19,6 @@ abbrev pub SameType : List ClassDef → Option ClassDef → Option Ty → Type 0
 SameType cs None None = Unit {0}
 SameType cs (Some d) (Some t) = IsClassType cs d t
 SameType cs _ _ = ⊥
-
-abbrev pub SameClass : List ClassDef → Option ClassDef → Option KnownClass → Type 0
-SameClass cs None None = Unit {0}
-SameClass cs (Some d) (Some k) = IsKnownClass cs d k
-SameClass cs _ _ = ⊥
 
 abbrev pub SameFunction : List ClassDef → Option FuncDef → Option Ty → Type 0
 SameFunction cs None None = Unit {0}
@@ -38,11 +33,11 @@ same_type cs (d ∷ ds) (n ∷ ns) x h =
 same_type cs [] (n ∷ ns) x h = absurd h
 same_type cs (d ∷ ds) [] x h = absurd h
 
-class_of_name : (cs ds : List ClassDef) (ks : List KnownClass) (x : List ℕ) → ClassesKnown cs ds ks → SameClass cs (class_named ds x) (known_class ks x)
+class_of_name : (cs ds : List ClassDef) (ks : List KnownClass) (x : List ℕ) → ClassesKnown cs ds ks → IsSameClass cs (class_named ds x) (known_class ks x)
 class_of_name cs [] [] x h = tt
 class_of_name cs (d ∷ ds) (k ∷ ks) x h =
-    subst (λ (z : List ℕ). SameClass cs (class_named (d ∷ ds) x) (cond (bytes_eq z x) (Some k) (known_class ks x))) (sym h.0.name)
-    (split (bytes_eq d.name.text x) (λ b. SameClass cs (cond b (Some d) (class_named ds x)) (cond b (Some k) (known_class ks x))) (λ t. h.0) (λ f. class_of_name cs ds ks x h.1))
+    subst (λ (z : List ℕ). IsSameClass cs (class_named (d ∷ ds) x) (cond (bytes_eq z x) (Some k) (known_class ks x))) (sym h.0.name)
+    (split (bytes_eq d.name.text x) (λ b. IsSameClass cs (cond b (Some d) (class_named ds x)) (cond b (Some k) (known_class ks x))) (λ t. h.0) (λ f. class_of_name cs ds ks x h.1))
 class_of_name cs [] (k ∷ ks) x h = absurd h
 class_of_name cs (d ∷ ds) [] x h = absurd h
 
@@ -56,7 +51,7 @@ function_of_name cs (d ∷ ds) [] x h = absurd h
 
 -- ---- look-ups in what is known
 
-pub same_class : (cs : List ClassDef) (fs : List FuncDef) (ks : Known) (x : List ℕ) → IsKnown cs fs ks → SameClass cs (class_named cs x) (known_class ks.classes x)
+pub same_class : (cs : List ClassDef) (fs : List FuncDef) (ks : Known) (x : List ℕ) → IsKnown cs fs ks → IsSameClass cs (class_named cs x) (known_class ks.classes x)
 same_class cs fs ks x h = class_of_name cs cs ks.classes x h.classes
 
 pub same_function : (cs : List ClassDef) (fs : List FuncDef) (ks : Known) (x : List ℕ) → IsKnown cs fs ks → SameFunction cs (function_named fs x) (type_of_name ks.functions x)

@@ -21,10 +21,11 @@ use Rattle.script_rules.specs.Scoping.{StandsAt, ClassesStand, FunctionsStand, N
 use Rattle.script_rules.specs.Writes.{in_order, Declares, WritesAny, IsClassType, IsFunctionType}
 use Rattle.static_types.specs.Scripts.{AreNames}
 use Rattle.known_names.specs.declared.known.KnownClass.{KnownClass}
+use Rattle.known_names.specs.declared.known.Local.{Local}
 use Rattle.known_names.specs.computed.Annotations.{known_fields}
-use Rattle.known_names.specs.computed.Gathered.{next_type, class_types, function_types, classes_from, known_in, values_of, block_values, result_type, declared_result, local_at}
-use Rattle.known_names.specs.IsKnown.{TypesKnown, IsKnownClass, ClassesKnown, FunctionsKnown, IsKnown, IsFunctionLocal, IsMainLocal}
-use Rattle.known_names.specs.computed.TypeList.{type_or_dyn, type_at}
+use Rattle.known_names.specs.computed.Gathered.{next_type, class_types, function_types, classes_from, script_names, function_names, bodies_from, gathered, values_of, block_values, result_type, declared_result, local_at}
+use Rattle.known_names.specs.IsKnown.{TypesKnown, IsKnownClass, ClassesKnown, FunctionsKnown, IsKnown, IsFunctionLocal, IsMainLocal, BodiesKnown, IsKnownScript}
+use Rattle.known_names.specs.computed.TypeTests.{type_or_dyn, type_at}
 use Rattle.known_names.proofs.AnnotationLaws.{declared_fields, field_names}
 
 -- ---- positions
@@ -109,7 +110,7 @@ module _ (cs : List ClassDef) (ns : List NamedType) (known : TypesKnown cs cs ns
   classes_found (item.Def d ∷ is) done before rest b h = classes_found is done before rest b h
   classes_found (item.Stmt s ∷ is) done before rest b h = classes_found is done before rest b h
 
-pub known_found : (d : Scoped) → IsScope d.script d → IsKnown (class_list d.script) (function_list d.script) (known_in d)
+known_found : (d : Scoped) → IsScope d.script d → IsKnown (class_list d.script) (function_list d.script) (script_names d)
 known_found d s =
     let cs = class_list d.script in
     let items = d.script.items in
@@ -170,7 +171,7 @@ module _ (cs : List ClassDef) (types : List Ty) where
   block_names : (o : Option BlockNames) (b : BlockNames) (ts : List Target) → o ≡ Some b → NamesStand cs types ts b.values → AreNames cs ts (block_values types o)
   block_names o b ts e h = subst (λ (z : Option BlockNames). AreNames cs ts (block_values types z)) (sym e) (values_found ts b.values h)
 
-pub function_local : (d : Scoped) (n : ℕ) (f : FuncDef) → IsScope d.script d → slice_get (function_list d.script) n ≡ Some f
+function_local : (d : Scoped) (n : ℕ) (f : FuncDef) → IsScope d.script d → slice_get (function_list d.script) n ≡ Some f
     → IsFunctionLocal d.script f (local_at d n (Some (declared_result d n)))
 function_local d n f s e =
     let cs = class_list d.script in
@@ -187,7 +188,7 @@ function_local d n f s e =
       },
     )
 
-pub main_local : (d : Scoped) → IsScope d.script d → IsMainLocal d.script (local_at d (length d.functions) None)
+main_local : (d : Scoped) → IsScope d.script d → IsMainLocal d.script (local_at d (length d.functions) None)
 main_local d s =
     let cs = class_list d.script in
     let (b, g, h) = main_found cs d.types (function_list d.script) (main_block d.script) d.blocks s.blocks in
@@ -199,4 +200,31 @@ main_local d s =
       values = block_names cs d.types (slice_get d.blocks (length d.functions)) b (firsts (all_targets [] (main_block d.script))) there h.values;
       threads = refl;
       result = refl;
+    }
+
+-- ---- all of them
+
+module _ (d : Scoped) (s : IsScope d.script d) where
+  abbrev Functions : List FuncDef
+  Functions = function_list d.script
+
+  abbrev BodiesFound : List Local → List FuncDef → List TyAt → Type 0
+  BodiesFound done fs places = (ls : List Local) × (bodies_from d done places ≡ done ++ ls) × BodiesKnown d.script fs ls
+
+  bodies_found : (fs : List FuncDef) (places : List TyAt) (done : List Local) (before : List FuncDef) → AreBefore Functions done before fs → FunctionsStand (class_list d.script) d.types fs places → BodiesFound done fs places
+  bodies_found [] [] done before b h = ([], sym (append-nil done), tt)
+  bodies_found [] (a ∷ places) done before b h = absurd h
+  bodies_found (f ∷ fs) [] done before b h = absurd h
+  bodies_found (f ∷ fs) (a ∷ places) done before b h =
+      let l : Local = function_names d (length done) in
+      let (ls, e, k) = bodies_found fs places (done ++ l ∷ []) (before ++ f ∷ []) (one_on Functions done l before f fs b) h.1 in
+      (l ∷ ls, e ∙ append_assoc done (l ∷ []) ls, (function_local d (length done) f s (read_next Functions done before f fs b), k))
+
+pub script_found : (d : Scoped) → IsScope d.script d → IsKnownScript d.script (gathered d)
+script_found d s =
+    let (ls, e, k) = bodies_found d s (function_list d.script) d.functions [] [] (refl, refl) s.functions in
+    record {
+      names = known_found d s;
+      bodies = subst (λ (z : List Local). BodiesKnown d.script (function_list d.script) z) (sym e) k;
+      main = main_local d s;
     }

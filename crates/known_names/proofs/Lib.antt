@@ -1,7 +1,9 @@
 pub mod TypeTests
 pub mod TypeListLaws
-pub mod WriteLaws
+pub mod NamedLaws
 pub mod Steps
 pub mod Classes
 pub mod AnnotationLaws
 pub mod KnownLaws
+pub mod OneKnown
+pub mod BodyTurns

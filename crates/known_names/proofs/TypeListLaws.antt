@@ -1,15 +1,15 @@
 -- The list of types only grows: positions stay, and each type stands once in it.
-use Rattle.std.proofs.Common.{◌≡◌, ℕ, zero, suc, ◌+◌, true, false, cond, List, [], ◌∷◌, ◌++◌, length, inl, inr, refl, sym, ◌∙◌, ap, subst, arith, add-zero}
-use Rattle.std.specs.Prelude.{Option, Some, None, slice_get, Contains}
-use Rattle.std.proofs.lemmas.Bool.{and_parts, and_from}
+use Rattle.std.proofs.Common.{◌≡◌, ℕ, zero, suc, ◌+◌, true, false, cond, List, [], ◌∷◌, ◌++◌, length, inl, inr, refl, sym, ◌∙◌, ap, subst, arith}
+use Rattle.std.specs.Prelude.{◌⊎◌, ◌||◌, Bool, not, Some, slice_get, Contains}
+use Rattle.std.specs.List.{list_any, position_or_len}
 use Rattle.std.proofs.lemmas.List.Elements.{Contains-append_cases}
-use Rattle.mono_list.proofs.Cases.{split, some_is, none_some, some_none}
+use Rattle.mono_list.proofs.Cases.{split, none_some}
 use Rattle.mono_syntax.specs.Ty.{Ty}
-use Rattle.mono_tree.specs.Precision.{precise}
-use Rattle.mono_tree.proofs.TypeLaws.{precise_refl, precise_antisym}
 use Rattle.mono_tree.specs.ClosedList.{AreDistinct}
-use Rattle.known_names.specs.declared.types.Placed.{Placed}
-use Rattle.known_names.specs.computed.TypeList.{same, position_from, placed, with_type}
+use Rattle.mono_syntax.specs.computed.TyEq.{ty_eq}
+use Rattle.mono_syntax.specs.TyEqLaws.{ty_eq-is, ty_eq-same}
+use Rattle.known_names.specs.Placing.{IsPlaced}
+use Rattle.known_names.specs.computed.TypeList.{with_type}
 
 -- ---- lists that grow
 
@@ -58,46 +58,52 @@ distinct_push (u ∷ ts) t h d = (
 
 -- ---- the position of a type
 
-same_is : (a b : Ty) → same a b ≡ true → a ≡ b
-same_is a b h = let p = and_parts (precise a b) (precise b a) h in precise_antisym a b p.0 p.1
+one_more : (k : ℕ) → suc k ≡ 1 + k
+one_more k = omega arith
 
-same_itself : (a b : Ty) → a ≡ b → same a b ≡ true
-same_itself a b e = subst (λ (z : Ty). same a z ≡ true) e (and_from (precise a a) (precise a a) (precise_refl a) (precise_refl a))
+found : (t : Ty) (ts : List Ty) → list_any (ty_eq t) ts ≡ true → slice_get ts (position_or_len (ty_eq t) ts) ≡ Some t
+found t [] e = absurd cc
+found t (u ∷ us) e =
+    split (ty_eq t u) (λ b. (b || list_any (ty_eq t) us) ≡ true → slice_get (u ∷ us) (cond (not b) (1 + position_or_len (ty_eq t) us) 0) ≡ Some t)
+    (λ y h. ap (λ (z : Ty). Some z) (sym (ty_eq-is t u y)))
+    (λ n h. subst (λ (k : ℕ). slice_get (u ∷ us) k ≡ Some t) (one_more (position_or_len (ty_eq t) us)) (found t us h))
+    e
 
--- the type stands so far behind n
-abbrev Found : ℕ → List Ty → Ty → ℕ → Type 0
-Found n ts t k = (j : ℕ) × (k ≡ n + j) × (slice_get ts j ≡ Some t)
+not_here : (t u : Ty) (us : List Ty) → ty_eq t u ≡ false → (Contains us t → ⊥) → Contains (u ∷ us) t → ⊥
+not_here t u us f h (zero, l, i) = let y : ty_eq t u ≡ true = ty_eq-same t u (sym i) in cc
+not_here t u us f h (suc k, l, i) = h (k, omega arith, i)
 
-position_found : (n : ℕ) (ts : List Ty) (t : Ty) (k : ℕ) → position_from n ts t ≡ Some k → Found n ts t k
-position_found n [] t k = λ e. none_some (Found n [] t k) e
-position_found n (u ∷ us) t k =
-    split (same u t) (λ b. cond b (Some n) (position_from (n + 1) us t) ≡ Some k → Found n (u ∷ us) t k)
-    (λ y e. (0, sym (some_is e) ∙ sym (add-zero n), ap (λ (z : Ty). Some z) (same_is u t y)))
-    (λ f e. let (j, i, g) = position_found (n + 1) us t k e in (suc j, omega (arith, i), g))
+-- the list hasn't the type, and so the position is the list's end
+abbrev NotThere : Ty → List Ty → Type 0
+NotThere t ts = (Contains ts t → ⊥) × (position_or_len (ty_eq t) ts ≡ length ts)
 
-not_here : (u t : Ty) (us : List Ty) → same u t ≡ false → (Contains us t → ⊥) → Contains (u ∷ us) t → ⊥
-not_here u t us f h (zero, l, i) = let y : same u t ≡ true = same_itself u t i in cc
-not_here u t us f h (suc k, l, i) = h (k, omega arith, i)
+not_there : (t : Ty) (ts : List Ty) → list_any (ty_eq t) ts ≡ false → NotThere t ts
+not_there t [] e = (none_in t, refl)
+not_there t (u ∷ us) e =
+    split (ty_eq t u) (λ b. ty_eq t u ≡ b → (b || list_any (ty_eq t) us) ≡ false → (Contains (u ∷ us) t → ⊥) × (cond (not b) (1 + position_or_len (ty_eq t) us) 0 ≡ length (u ∷ us)))
+    (λ y f h. absurd cc)
+    (λ n f h. let rest = not_there t us h in (not_here t u us f rest.0, ap (λ (k : ℕ). 1 + k) rest.1 ∙ sym (one_more (length us))))
+    refl e
 
-position_none : (n : ℕ) (ts : List Ty) (t : Ty) → position_from n ts t ≡ None → Contains ts t → ⊥
-position_none n [] t = λ e c. none_in t c
-position_none n (u ∷ us) t =
-    split (same u t) (λ b. cond b (Some n) (position_from (n + 1) us t) ≡ None → Contains (u ∷ us) t → ⊥)
-    (λ y e c. some_none ⊥ e)
-    (λ f e c. not_here u t us f (position_none (n + 1) us t e) c)
-
--- the type has its position in the list that grew
-pub record IsPlaced (ts : List Ty) (t : Ty) (x : Placed) : Type 0 where
-  pub at : slice_get x.types x.at.0 ≡ Some t
-  pub grows : Grows ts x.types
-
-placed_so : (ts : List Ty) (t : Ty) (o : Option ℕ) → position_from 0 ts t ≡ o → IsPlaced ts t (placed o ts t)
-placed_so ts t (Some k) e =
-    let (j, i, g) = position_found 0 ts t k e in
-    let same_place : j ≡ k = omega (arith, i) in
-    record { at = subst (λ (z : ℕ). slice_get ts z ≡ Some t) same_place g; grows = stays ts }
-placed_so ts t None e =
-    record { at = at_end ts t; grows = record { keeps = kept-append ts (t ∷ []); distinct = distinct_push ts t (position_none 0 ts t e) } }
+placed_so : (ts : List Ty) (t : Ty) (b : Bool) → list_any (ty_eq t) ts ≡ b → IsPlaced ts t (record { at = record { 0 = position_or_len (ty_eq t) ts }; types = cond b ts (ts ++ t ∷ []) })
+placed_so ts t true e = record { at = found t ts e; list = inl refl; distinct = λ d. d }
+placed_so ts t false e =
+    let h = not_there t ts e in
+    record {
+      at = subst (λ (n : ℕ). slice_get (ts ++ t ∷ []) n ≡ Some t) (sym h.1) (at_end ts t);
+      list = inr (h.0, refl);
+      distinct = distinct_push ts t h.0;
+    }
 
 pub is_placed : (ts : List Ty) (t : Ty) → IsPlaced ts t (with_type ts t)
-is_placed ts t = placed_so ts t (position_from 0 ts t) refl
+is_placed ts t = placed_so ts t (list_any (ty_eq t) ts) refl
+
+kept : (ts us : List Ty) (t : Ty) → (us ≡ ts) ⊎ ((Contains ts t → ⊥) × (us ≡ ts ++ t ∷ [])) → Keeps ts us
+kept ts us t h = elim h [
+  | inl e ↦ subst (λ (z : List Ty). Keeps ts z) (sym e) (λ k u i. i)
+  | inr e ↦ subst (λ (z : List Ty). Keeps ts z) (sym e.1) (kept-append ts (t ∷ []))
+]
+
+-- the list grew
+pub grown : (ts : List Ty) (t : Ty) → Grows ts (with_type ts t).types
+grown ts t = let p = is_placed ts t in record { keeps = kept ts (with_type ts t).types t p.list; distinct = p.distinct }

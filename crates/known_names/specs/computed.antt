@@ -1,3 +1,4 @@
+pub mod TypeTests
 pub mod TypeList
 pub mod Annotations
 pub mod KnownNames

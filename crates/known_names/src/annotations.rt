@@ -1,31 +1,19 @@
 ghost use Rattle.std.specs.Prelude.{◌≡◌, [], IfOk};
-ghost use Rattle.std.specs.Option.{option_copied};
 ghost use Rattle.mono_syntax.specs.AnnView.{anns};
 ghost use Rattle.mono_tree.specs.TypedPrograms.{type_of_name};
 ghost use Rattle.known_names.specs.computed.Annotations.{written, written_all, known_field, known_fields};
 
+use crate::named::NamedTypes;
 use crate::types::{new_type, type_or_dyn};
 use mono_list::Shared;
-use mono_syntax::{Ann, AnnForm, Field, FieldDef, Name, NamedType, Ty, TyKind};
+use mono_syntax::{Ann, AnnForm, Field, FieldDef, Name, Ty, TyKind};
 use sqlite_items::Items;
 use std::alloc::{AllocError, Global};
 
-/// The type of a name. The search is linear, in at most 4,096 names or 1,023 classes.
-pub fn type_of<'a>(names: &'a [NamedType], name: &Name) -> Option<&'a Shared<Ty>>
-    ensures { option_copied result ≡ type_of_name names.now name.now }
-{
-    for known in names {
-        if known.name.as_slice() == name.as_slice() {
-            return Some(&known.ty);
-        }
-    }
-    None
-}
-
-fn class_type(classes: &[NamedType], name: &Name) -> Result<Option<Shared<Ty>>, AllocError>
+fn class_type(classes: &NamedTypes, name: &Name) -> Result<Option<Shared<Ty>>, AllocError>
     ensures { IfOk result (λ found. found ≡ type_of_name classes.now name.now) }
 {
-    match type_of(classes, name) {
+    match classes.get(name) {
         Some(ty) => Ok(Some(ty.share()?)),
         None => Ok(None),
     }
@@ -35,7 +23,7 @@ fn class_type(classes: &[NamedType], name: &Name) -> Result<Option<Shared<Ty>>, 
 #[cycle(written)]
 pub fn written(
     alloc: Global,
-    classes: &[NamedType],
+    classes: &NamedTypes,
     ann: &Ann,
 ) -> Result<Option<Shared<Ty>>, AllocError>
     ensures { IfOk result (λ found. found ≡ written classes.now ann.now) }
@@ -63,7 +51,7 @@ pub fn written(
 #[tactic(auto, using(mono_syntax::proofs::Parts::parts))]
 fn written_all(
     alloc: Global,
-    classes: &[NamedType],
+    classes: &NamedTypes,
     annotations: &[Ann],
 ) -> Result<Option<Items<Shared<Ty>>>, AllocError>
     ensures { IfOk result (λ found. found ≡ written_all classes.now [] (anns annotations.now)) }
@@ -78,7 +66,7 @@ fn written_all(
     Ok(Some(types))
 }
 
-fn known_field(alloc: Global, classes: &[NamedType], field: &FieldDef) -> Result<Field, AllocError>
+fn known_field(alloc: Global, classes: &NamedTypes, field: &FieldDef) -> Result<Field, AllocError>
     ensures { IfOk result (λ known. known ≡ known_field classes.now field.now) }
 {
     let found = written(alloc, classes, &field.ann)?;
@@ -90,7 +78,7 @@ fn known_field(alloc: Global, classes: &[NamedType], field: &FieldDef) -> Result
 /// The fields of a class with their types, in declared order.
 pub fn known_fields(
     alloc: Global,
-    classes: &[NamedType],
+    classes: &NamedTypes,
     fields: &[FieldDef],
 ) -> Result<Items<Field>, AllocError>
     ensures { IfOk result (λ known. known ≡ known_fields classes.now fields.now) }

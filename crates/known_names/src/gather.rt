@@ -1,11 +1,12 @@
-ghost use Rattle.std.specs.Prelude.{◌≡◌, [], IfOk, Some, slice_get};
-ghost use Rattle.mono_syntax.specs.declared.tree.FuncDef.{FuncDef};
-ghost use Rattle.script_rules.specs.Scoping.{IsScope, class_list, function_list};
-ghost use Rattle.known_names.specs.computed.Gathered.{with_name, with_class_type, class_types, with_function_type, function_types, with_class, classes_from, known_with, named, values_of, block_values, result_type, declared_result, local_at, known_in, function_names, main_names};
-ghost use Rattle.known_names.specs.IsKnown.{IsKnown, IsFunctionLocal, IsMainLocal};
+ghost use Rattle.std.specs.Prelude.{◌≡◌, [], IfOk, slice_get};
+ghost use Rattle.script_rules.specs.Scoping.{IsScope};
+ghost use Rattle.known_names.specs.computed.Gathered.{with_name, with_class_type, class_types, with_function_type, function_types, with_class, classes_from, known_with, named, values_of, block_values, result_type, declared_result, local_at, script_names, bodies_from, function_names, main_names, gathered};
+ghost use Rattle.known_names.specs.IsKnown.{IsKnownScript};
 
 use crate::annotations::known_fields;
-use crate::known::{Known, KnownClass, Local};
+use crate::known::{Known, KnownClass, KnownScript, Local};
+use crate::known_classes::KnownClasses;
+use crate::named::NamedTypes;
 use crate::types::{new_type, type_at};
 use mono_list::Shared;
 use mono_syntax::{Item, Name, NamedType, Scoped, Ty, TyAt, TyKind, TypedName};
@@ -17,24 +18,23 @@ fn with_name(
     alloc: Global,
     types: &[Shared<Ty>],
     places: &[TyAt],
-    mut done: Items<NamedType>,
+    done: NamedTypes,
     name: &Name,
-) -> Result<Items<NamedType>, AllocError>
+) -> Result<NamedTypes, AllocError>
     ensures { IfOk result (λ more. more ≡ with_name types.now places.now done name.now) }
 {
     let ty = type_at(alloc, types, places.get(done.len()))?;
     let name = name.share()?;
-    done.push(NamedType { name, ty })?;
-    Ok(done)
+    done.push(alloc, NamedType { name, ty })
 }
 
 fn with_class_type(
     alloc: Global,
     types: &[Shared<Ty>],
     places: &[TyAt],
-    done: Items<NamedType>,
+    done: NamedTypes,
     item: &Item,
-) -> Result<Items<NamedType>, AllocError>
+) -> Result<NamedTypes, AllocError>
     ensures { IfOk result (λ more. more ≡ with_class_type types.now places.now done item.now) }
 {
     match item {
@@ -49,10 +49,10 @@ fn class_types(
     types: &[Shared<Ty>],
     places: &[TyAt],
     items: &[Item],
-) -> Result<Items<NamedType>, AllocError>
+) -> Result<NamedTypes, AllocError>
     ensures { IfOk result (λ all. all ≡ class_types types.now places.now [] items.now) }
 {
-    let mut done = Items::new(alloc);
+    let mut done = NamedTypes::new(alloc);
     for item in items {
         done = with_class_type(alloc, types, places, done, item)?;
     }
@@ -63,9 +63,9 @@ fn with_function_type(
     alloc: Global,
     types: &[Shared<Ty>],
     places: &[TyAt],
-    done: Items<NamedType>,
+    done: NamedTypes,
     item: &Item,
-) -> Result<Items<NamedType>, AllocError>
+) -> Result<NamedTypes, AllocError>
     ensures { IfOk result (λ more. more ≡ with_function_type types.now places.now done item.now) }
 {
     match item {
@@ -80,10 +80,10 @@ fn function_types(
     types: &[Shared<Ty>],
     places: &[TyAt],
     items: &[Item],
-) -> Result<Items<NamedType>, AllocError>
+) -> Result<NamedTypes, AllocError>
     ensures { IfOk result (λ all. all ≡ function_types types.now places.now [] items.now) }
 {
-    let mut done = Items::new(alloc);
+    let mut done = NamedTypes::new(alloc);
     for item in items {
         done = with_function_type(alloc, types, places, done, item)?;
     }
@@ -92,12 +92,12 @@ fn function_types(
 
 fn with_class(
     alloc: Global,
-    annotations: &[NamedType],
+    annotations: &NamedTypes,
     types: &[Shared<Ty>],
     places: &[TyAt],
-    mut done: Items<KnownClass>,
+    done: KnownClasses,
     item: &Item,
-) -> Result<Items<KnownClass>, AllocError>
+) -> Result<KnownClasses, AllocError>
     ensures { IfOk result (λ more. more ≡ with_class annotations.now types.now places.now done item.now) }
 {
     let Item::Class(class) = item else {
@@ -106,21 +106,20 @@ fn with_class(
     let ty = type_at(alloc, types, places.get(done.len()))?;
     let fields = known_fields(alloc, annotations, class.fields.as_slice())?;
     let name = class.name.text.share()?;
-    done.push(KnownClass { name, fields, ty })?;
-    Ok(done)
+    done.push(alloc, KnownClass { name, fields, ty })
 }
 
 /// The classes, whose types stand at these places.
 fn classes(
     alloc: Global,
-    annotations: &[NamedType],
+    annotations: &NamedTypes,
     types: &[Shared<Ty>],
     places: &[TyAt],
     items: &[Item],
-) -> Result<Items<KnownClass>, AllocError>
+) -> Result<KnownClasses, AllocError>
     ensures { IfOk result (λ all. all ≡ classes_from annotations.now types.now places.now [] items.now) }
 {
-    let mut done = Items::new(alloc);
+    let mut done = KnownClasses::new(alloc);
     for item in items {
         done = with_class(alloc, annotations, types, places, done, item)?;
     }
@@ -128,17 +127,13 @@ fn classes(
 }
 
 /// All that is known, where the classes have these types.
-fn known_with(
-    alloc: Global,
-    scoped: &Scoped,
-    annotations: Items<NamedType>,
-) -> Result<Known, AllocError>
+fn known_with(alloc: Global, scoped: &Scoped, annotations: NamedTypes) -> Result<Known, AllocError>
     ensures { IfOk result (λ known. known ≡ known_with scoped.now annotations) }
 {
     let items = scoped.script.get().items.get().as_slice();
     let types = scoped.types.as_slice();
     let places = scoped.classes.as_slice();
-    let classes = classes(alloc, annotations.as_slice(), types, places, items)?;
+    let classes = classes(alloc, &annotations, types, places, items)?;
     let functions = function_types(alloc, types, scoped.functions.as_slice(), items)?;
     Ok(Known {
         annotations,
@@ -147,13 +142,9 @@ fn known_with(
     })
 }
 
-/// What is known of the names of a whole script.
-pub fn known_in(alloc: Global, scoped: &Scoped) -> Result<Known, AllocError>
-    requires scope { IsScope scoped.now.script scoped.now }
-    ensures known { IfOk result (IsKnown (class_list scoped.now.script) (function_list scoped.now.script)) }
-
-    // It is the value that the definition of this name computes.
-    ensures computed { IfOk result (λ known. known ≡ known_in scoped.now) }
+/// What is known of the names that stand for the same in the whole script.
+fn script_names(alloc: Global, scoped: &Scoped) -> Result<Known, AllocError>
+    ensures { IfOk result (λ known. known ≡ script_names scoped.now) }
 {
     let items = scoped.script.get().items.get().as_slice();
     let places = scoped.classes.as_slice();
@@ -174,27 +165,23 @@ fn values_of(
     alloc: Global,
     types: &[Shared<Ty>],
     names: &[TypedName],
-) -> Result<Items<NamedType>, AllocError>
+) -> Result<NamedTypes, AllocError>
     ensures { IfOk result (λ all. all ≡ values_of types.now names.now) }
 {
-    let mut all = Items::new(alloc);
+    let mut all = NamedTypes::new(alloc);
     for name in names {
-        all.push(named(alloc, types, name)?)?;
+        all = all.push(alloc, named(alloc, types, name)?)?;
     }
     Ok(all)
 }
 
 /// The names of a block with their types.
-fn block_values(
-    alloc: Global,
-    scoped: &Scoped,
-    block: usize,
-) -> Result<Items<NamedType>, AllocError>
+fn block_values(alloc: Global, scoped: &Scoped, block: usize) -> Result<NamedTypes, AllocError>
     ensures { IfOk result (λ all. all ≡ block_values scoped.now.types (slice_get scoped.now.blocks block)) }
 {
     match scoped.blocks.as_slice().get(block) {
         Some(names) => values_of(alloc, scoped.types.as_slice(), names.values.as_slice()),
-        None => Ok(Items::new(alloc)),
+        None => Ok(NamedTypes::new(alloc)),
     }
 }
 
@@ -208,7 +195,7 @@ fn local_at(
     ensures { IfOk result (λ names. names ≡ local_at scoped.now block declared) }
 {
     let values = block_values(alloc, scoped, block)?;
-    let threads = Items::new(alloc);
+    let threads = NamedTypes::new(alloc);
     Ok(Local {
         values,
         threads,
@@ -240,25 +227,50 @@ fn declared_result(
 }
 
 /// What the body of a function may name at its start. Functions are counted from 0, in source order.
-pub fn function_names(alloc: Global, scoped: &Scoped, function: usize) -> Result<Local, AllocError>
-    requires scope { IsScope scoped.now.script scoped.now }
-    ensures named { (d : FuncDef) → slice_get (function_list scoped.now.script) function ≡ Some d → IfOk result (IsFunctionLocal scoped.now.script d) }
-
-    // It is the value that the definition of this name computes.
-    ensures computed { IfOk result (λ names. names ≡ function_names scoped.now function) }
+fn function_names(alloc: Global, scoped: &Scoped, function: usize) -> Result<Local, AllocError>
+    ensures { IfOk result (λ names. names ≡ function_names scoped.now function) }
 {
     let declared = declared_result(alloc, scoped, function)?;
     local_at(alloc, scoped, function, Some(declared))
 }
 
-/// What the main block may name at its start.
-pub fn main_names(alloc: Global, scoped: &Scoped) -> Result<Local, AllocError>
-    requires scope { IsScope scoped.now.script scoped.now }
-    ensures named { IfOk result (IsMainLocal scoped.now.script) }
+/// What the bodies of the functions may name, whose types stand at these places.
+fn bodies(alloc: Global, scoped: &Scoped, places: &[TyAt]) -> Result<Items<Local>, AllocError>
+    ensures { IfOk result (λ all. all ≡ bodies_from scoped.now [] places.now) }
+{
+    let mut all = Items::new(alloc);
+    for _ in places {
+        let names = function_names(alloc, scoped, all.len())?;
+        all.push(names)?;
+    }
+    Ok(all)
+}
 
-    // It is the value that the definition of this name computes.
-    ensures computed { IfOk result (λ names. names ≡ main_names scoped.now) }
+/// What the main block may name at its start.
+fn main_names(alloc: Global, scoped: &Scoped) -> Result<Local, AllocError>
+    ensures { IfOk result (λ names. names ≡ main_names scoped.now) }
 {
     // The main block stands behind those of the functions.
     local_at(alloc, scoped, scoped.functions.len(), None)
+}
+
+fn gathered(alloc: Global, scoped: &Scoped) -> Result<KnownScript, AllocError>
+    ensures { IfOk result (λ known. known ≡ gathered scoped.now) }
+{
+    let names = script_names(alloc, scoped)?;
+    let bodies = bodies(alloc, scoped, scoped.functions.as_slice())?;
+    let main = main_names(alloc, scoped)?;
+    Ok(KnownScript {
+        names,
+        bodies,
+        main,
+    })
+}
+
+/// What is known of all names of a script.
+pub fn known_in(alloc: Global, scoped: &Scoped) -> Result<KnownScript, AllocError>
+    requires scope { IsScope scoped.now.script scoped.now }
+    ensures { IfOk result (IsKnownScript scoped.now.script) }
+{
+    gathered(alloc, scoped)
 }

@@ -2,10 +2,11 @@ ghost use Rattle.std.specs.Prelude.{◌≡◌};
 ghost use Rattle.std.specs.Option.{option_copied};
 ghost use Rattle.mono_syntax.specs.TyView.{fields};
 ghost use Rattle.static_types.specs.Members.{field_type};
-ghost use Rattle.known_names.specs.computed.KnownNames.{known_class};
 
+use crate::known_classes::KnownClasses;
+use crate::named::NamedTypes;
 use mono_list::Shared;
-use mono_syntax::{Field, Name, NamedType, Ty};
+use mono_syntax::{Field, Name, Ty};
 use sqlite_items::Items;
 
 /// A class with its fields in declared order, and its type.
@@ -16,37 +17,34 @@ pub struct KnownClass {
     pub ty: Shared<Ty>,
 }
 
-/// What is known of the names of a whole script: the types that its classes' names write, its classes in source order, and
-/// its functions with their declared types, in source order.
+/// What is known of the names that stand for the same in a whole script: the types that its classes' names write, its classes in
+/// source order, and its functions with their declared types, in source order.
 #[derive(Drop)]
 pub struct Known {
-    pub annotations: Items<NamedType>,
-    pub classes: Items<KnownClass>,
-    pub functions: Items<NamedType>,
+    pub annotations: NamedTypes,
+    pub classes: KnownClasses,
+    pub functions: NamedTypes,
 }
 
 /// What is known in one block beside that: its parameters and assigned names with their types, the names that it has started
 /// so far with the types of what their threads give, and the declared result of its function, which the main block hasn't.
 #[derive(Drop)]
 pub struct Local {
-    pub values: Items<NamedType>,
-    pub threads: Items<NamedType>,
+    pub values: NamedTypes,
+    pub threads: NamedTypes,
     pub result: Option<Shared<Ty>>,
 }
 
-/// The class of a name. The search is linear, in at most 1,023 classes.
-pub fn known_class<'a>(classes: &'a [KnownClass], name: &Name) -> Option<&'a KnownClass>
-    ensures { option_copied result ≡ known_class classes.now name.now }
-{
-    for class in classes {
-        if class.name.as_slice() == name.as_slice() {
-            return Some(class);
-        }
-    }
-    None
+/// What is known of all names of a script: of those that stand for the same everywhere, of those of each function's body at its
+/// start, in source order, and of those of the main block at its start.
+#[derive(Drop)]
+pub struct KnownScript {
+    pub names: Known,
+    pub bodies: Items<Local>,
+    pub main: Local,
 }
 
-/// The type of a field.
+/// The type of a field. The search is linear, in the fields of one class.
 pub fn field_of<'a>(members: &'a [Field], name: &Name) -> Option<&'a Shared<Ty>>
     ensures { option_copied result ≡ field_type (fields members.now) name.now }
 {

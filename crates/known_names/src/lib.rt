@@ -5,9 +5,17 @@
 mod annotations;
 mod gather;
 mod known;
+mod known_classes;
+pub mod laws;
+mod named;
+mod type_key;
+mod type_list;
 mod types;
 
-pub use annotations::{type_of, written};
-pub use gather::{function_names, known_in, main_names};
-pub use known::{Known, KnownClass, Local, field_of, known_class};
-pub use types::{Placed, is_consistent, is_dyn, is_fully_static, is_precise, new_type, with_type};
+pub use annotations::written;
+pub use gather::known_in;
+pub use known::{Known, KnownClass, KnownScript, Local, field_of};
+pub use known_classes::KnownClasses;
+pub use named::NamedTypes;
+pub use type_list::{Placed, TypeList, with_type};
+pub use types::{is_consistent, is_dyn, is_fully_static, is_precise, new_type};

@@ -1,4 +1,6 @@
-pub mod Fitness
+-- Proofs.
+
 pub mod Fronts
-pub mod TreeLoading
+pub mod NameTexts
 pub mod TextLoading
+pub mod TreeLoading

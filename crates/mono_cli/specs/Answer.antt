@@ -1,6 +1,8 @@
 -- The answers of a command.
 use Rattle.std.specs.Prelude.{ℕ, List, [], codes}
 use Rattle.mono_syntax.specs.declared.cast.CastScript.{CastScript}
+use Rattle.cast_lines.specs.declared.rows.Row.{Row}
+use Rattle.cast_lines.specs.CastLines.{rows_text}
 use Rattle.mono_syntax.specs.declared.refusal.Refusal.{Refusal}
 use Rattle.mono_syntax.specs.declared.tree.Script.{Script}
 use Rattle.mono_syntax.specs.declared.value.Val.{Val}
@@ -35,3 +37,11 @@ ended p lines e = record { status = status_of_end e; out = rendered p.scoped.scr
 -- the answer that lists a script
 abbrev pub listed : Script → Answer
 listed s = record { status = 0; out = lines_text (script_lines s); err = [] }
+
+-- the answer to a script in which nothing is wrong
+abbrev pub passed : Answer
+passed = record { status = 0; out = codes "ok\n"; err = [] }
+
+-- the answer that lists the casts of a script, in this order
+abbrev pub casts_listed : CastScript → List Row → Answer
+casts_listed p rows = record { status = 0; out = rows_text p rows; err = [] }

@@ -1,4 +1,5 @@
--- What a script's bytes come to: their first refusal, or the run of their program, which is safe, or its text.
+-- What a script's bytes come to: their first refusal, or what a command makes of their program: a run, which is safe, its text, or
+-- its casts.
 use Rattle.std.specs.Prelude.{◌≡◌, ◌⊎◌, ℕ, true, List, Some, is_some}
 use Rattle.mono_syntax.specs.declared.cast.CastScript.{CastScript}
 use Rattle.mono_syntax.specs.declared.refusal.Refusal.{Refusal}
@@ -11,7 +12,9 @@ use Rattle.mono_syntax.specs.declared.tree.Script.{Script}
 use Rattle.tree_print.specs.ReadsBack.{ReadsBack}
 use Rattle.mono_cli.specs.declared.words.Verb.{Verb}
 use Rattle.mono_cli.specs.declared.words.Verb.TheVariants as verb
-use Rattle.mono_cli.specs.Answer.{Answer, refused, ended, listed}
+use Rattle.cast_lines.specs.declared.rows.Row.{Row}
+use Rattle.cast_lines.specs.CastLines.{AreRows}
+use Rattle.mono_cli.specs.Answer.{Answer, refused, ended, listed, passed, casts_listed}
 
 -- the limits of a run and its seed where the command names none
 abbrev pub defaults : Settings
@@ -48,10 +51,18 @@ pub record IsListing (s : Script) (a : Answer) : Type 0 where
   pub says : a ≡ listed s
   pub reads : ReadsBack a.out s
 
+-- the answer lists the casts of p by their places, of two at one place the inner one first
+pub record IsCastList (p : CastScript) (a : Answer) : Type 0 where
+  pub rows : List Row
+  pub are : AreRows p.sites rows
+  pub says : a ≡ casts_listed p rows
+
 -- the answer of a command to the program of an accepted script
 abbrev pub IsAccepted : Verb → CastScript → Answer → Type 0
-IsAccepted verb.Step p a = IsRunAnswer p a
+IsAccepted verb.Check p a = a ≡ passed
 IsAccepted verb.Show p a = IsListing p.scoped.script a
+IsAccepted verb.Casts p a = IsCastList p a
+IsAccepted verb.Step p a = IsRunAnswer p a
 
 -- the answer is that of the command to these bytes' program
 pub record IsProgramAnswer (v : Verb) (text : List ℕ) (a : Answer) : Type 0 where

@@ -12,15 +12,17 @@ is_file (b ∷ c ∷ bs) = not (b == 45)
 -- the command of this name
 abbrev pub verb_of : List ℕ → Option Verb
 verb_of w =
-    if bytes_eq w (codes "step") then Some verb.Step
+    if bytes_eq w (codes "check") then Some verb.Check
     else (if bytes_eq w (codes "show") then Some verb.Show
-    else None)
+    else (if bytes_eq w (codes "casts") then Some verb.Casts
+    else (if bytes_eq w (codes "step") then Some verb.Step
+    else None)))
 
 abbrev pub file_when : Option Verb → List ℕ → Option (List ℕ)
 file_when None file = None
 file_when (Some v) file = if is_file file then Some file else None
 
--- the file of a command line `step FILE` or `show FILE`; all other words are none
+-- the file of a command line of a command and a file; all other words are none
 abbrev pub file_of : List (List ℕ) → Option (List ℕ)
 file_of (command ∷ file ∷ []) = file_when (verb_of command) file
 file_of words = None

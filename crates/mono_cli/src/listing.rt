@@ -1,14 +1,17 @@
-ghost use Rattle.std.specs.Prelude.{◌≡◌, ◌<◌, ◌≤◌, ℕ, List, Option, [], length};
+ghost use Rattle.std.specs.Prelude.{◌≡◌, ◌<◌, ◌≤◌, ℕ, List, Option, [], length, Contains};
 ghost use Rattle.mono_io.specs.Puts.{Puts};
 ghost use Rattle.tree_print.specs.ReadsBack.{IsGrammatical};
-ghost use Rattle.mono_cli.specs.Scripts.{IsListing};
+ghost use Rattle.mono_syntax.specs.Ty.{Ty};
+ghost use Rattle.mono_tree.specs.TypeText.{HasTextNames};
+ghost use Rattle.mono_cli.specs.Answer.{passed};
+ghost use Rattle.mono_cli.specs.Scripts.{IsCastList, IsListing};
 ghost use Rattle.mono_cli.specs.Showing.{IsShown, Shows};
 
 use crate::render::put_piece;
 use mono_io::{Sink, SinkFault};
-use mono_tree::Script;
+use mono_tree::{CastScript, Script};
 use std::alloc::Global;
-use tree_print::print_script;
+use tree_print::{print_casts, print_script};
 
 /// The position behind the line that begins here.
 fn line_end(text: &[u8], from: usize) -> usize
@@ -52,6 +55,26 @@ fn show_lines<K: Sink>(text: &[u8], out: &mut K) -> u8
         Err(SinkFault::Failed) => 7,
         Err(SinkFault::Memory) => 8,
     }
+}
+
+/// Shows that nothing is wrong with a script.
+pub fn show_passed<K: Sink>(out: &mut K) -> u8
+    ensures { (x : Option (List ℕ)) (e : ℕ) → Shows (λ a. a ≡ passed)
+        (K.told out.old) (K.told out.new) (K.faults out.old) (K.faults out.new) x x e e result }
+{
+    show_lines(b"ok\n", out)
+}
+
+/// Shows the casts of a script.
+pub fn show_casts<K: Sink>(alloc: Global, script: &CastScript, out: &mut K) -> u8
+    requires texts { (t : Ty) → Contains script.now.types t → HasTextNames t }
+    ensures { (x : Option (List ℕ)) (e : ℕ) → Shows (λ a. IsCastList script.now a)
+        (K.told out.old) (K.told out.new) (K.faults out.old) (K.faults out.new) x x e e result }
+{
+    let Ok(text) = print_casts(alloc, script) else {
+        return 8;
+    };
+    show_lines(text.as_bytes(), out)
 }
 
 /// Shows a script's text.

@@ -1,4 +1,6 @@
-ghost use Rattle.std.specs.Prelude.{◌≡◌, ◌≤◌, length, IfOk};
+ghost use Rattle.std.specs.Prelude.{◌≡◌, ◌≤◌, length, Contains, IfOk};
+ghost use Rattle.mono_syntax.specs.Ty.{Ty};
+ghost use Rattle.mono_tree.specs.TypeText.{HasTextNames};
 ghost use Rattle.mono_tree.specs.TypedPrograms.{IsTypedProgram};
 ghost use Rattle.mono_cli.specs.Scripts.{RunsTo, AnswersText, IsAccepted, IsRunAnswer};
 ghost use Rattle.mono_cli.specs.Showing.{Shows};
@@ -6,7 +8,7 @@ ghost use Rattle.tree_print.specs.ReadsBack.{IsGrammatical};
 ghost use Rattle.mono_syntax.specs.Limits.{most_bytes};
 
 use crate::ends::{end_text, status_of_end};
-use crate::listing::show_listing;
+use crate::listing::{show_casts, show_listing, show_passed};
 use crate::refusals::show_refusal;
 use crate::show::show_run;
 use crate::words::Verb;
@@ -69,12 +71,15 @@ fn show_accepted<K: Sink, E: Sink>(
 ) -> u8
     requires typed { IsTypedProgram script.now }
     requires tree { IsGrammatical script.now.scoped.script }
+    requires texts { (t : Ty) → Contains script.now.types t → HasTextNames t }
     ensures { Shows (λ a. IsAccepted verb script.now a) (K.told out.old) (K.told out.new) (K.faults out.old) (K.faults out.new)
         (E.told err.old) (E.told err.new) (E.faults err.old) (E.faults err.new) result }
 {
     match verb {
-        Verb::Step => show_script(alloc, script, out, err),
+        Verb::Check => show_passed(out),
         Verb::Show => show_listing(alloc, script.scoped.get().script.get(), out),
+        Verb::Casts => show_casts(alloc, script, out),
+        Verb::Step => show_script(alloc, script, out, err),
     }
 }
 

@@ -52,10 +52,10 @@ fn answer<H: Shelf, K: Sink, E: Sink>(
 }
 
 /// Does what a command asks for, on one host thread, and gives its status: the words after the program's name come with
-/// the shelf that has the script and the sinks for output and for the err line. The command is `step FILE`, which runs the
-/// script, or `show FILE`, which prints it.
+/// the shelf that has the script and the sinks for output and for the err line. The command is `check FILE`, which says whether
+/// anything is wrong with the script, `show FILE`, which prints it, `casts FILE`, which lists its casts, or `step FILE`, which runs it.
 ///
-/// The status is 0 for a run that came to its end and for a script that is printed, 1 for a refused script, 2 for words that are no command, 3 for a blame,
+/// The status is 0 for a run that came to its end and for a script that is accepted by another command, 1 for a refused script, 2 for words that are no command, 3 for a blame,
 /// 4 for another error of the run, 5 for a limit, 6 for a fetch that failed, 7 for a put that failed, and 8 where there
 /// was no memory.
 pub fn plain_main<H: Shelf, K: Sink, E: Sink>(
@@ -67,7 +67,7 @@ pub fn plain_main<H: Shelf, K: Sink, E: Sink>(
 ) -> u8
     // What is put is the answer of the language's rules to the script's bytes, or a part of it. The answer is a refusal
     // exactly where the bytes have one; else it is what their run in the seed's order shows, and every run of them is safe;
-    // or, for `show`, their script's text, which reads back.
+    // or, for `check`, that they have none, for `show`, their script's text, which reads back, and for `casts` the list of its casts.
     ensures answers { Shows (λ a. IsAnswer (asked (map (λ w. string_bytes w) words.now)) (file_of (map (λ w. string_bytes w) words.now)) (H.told shelf.old) (H.faults shelf.old) (H.faults shelf.new) a)
         (K.told out.old) (K.told out.new) (K.faults out.old) (K.faults out.new)
         (E.told err.old) (E.told err.new) (E.faults err.old) (E.faults err.new) result }

@@ -5,23 +5,29 @@ ghost use Rattle.mono_cli.specs.Words.{verb_of, file_of, is_file, asked};
 /// What a command does with a script.
 #[derive(Clone, Copy, Debug, PartialEq, Eq)]
 pub enum Verb {
-    /// Runs it in the order of a seed.
-    Step,
+    /// Says that nothing is wrong with it.
+    Check,
     /// Prints it.
     Show,
+    /// Lists its casts.
+    Casts,
+    /// Runs it in the order of a seed.
+    Step,
 }
 
 fn verb_of(word: &str) -> Option<Verb>
     ensures { result ≡ verb_of word.now }
 {
     match word {
-        "step" => Some(Verb::Step),
+        "check" => Some(Verb::Check),
         "show" => Some(Verb::Show),
+        "casts" => Some(Verb::Casts),
+        "step" => Some(Verb::Step),
         _ => None,
     }
 }
 
-/// The file of a command line `step FILE` or `show FILE`.
+/// The file of a command line of a command and a file.
 pub fn file_of(words: &[String]) -> Option<&str>
     ensures { option_copied result ≡ file_of (map (λ w. string_bytes w) words.now) }
 {

@@ -68,6 +68,7 @@ fn with_types(alloc: Global, script: &Script, known: ClassTypes) -> Result<Scope
     let items = script.items.share()?;
     let script = Shared::new(alloc, Script { items })?;
     let ClassTypes { types, classes, .. } = known;
+    let types = types.shared(alloc)?;
     Ok(Scoped {
         script,
         types,

@@ -30,7 +30,7 @@ use Rattle.parse_script.specs.Definitions as ds
 use Rattle.parse_script.specs.Definitions.{DerivesDef}
 use Rattle.parse_script.specs.Script as sc
 use Rattle.parse_script.specs.Script.{DerivesItems, DerivesScript}
-use Rattle.parse_script.specs.Shapes.{IsShapedExpr, AreShapedExprs, IsShapedStmt, IsShapedBlock, AreShapedBranches, IsShapedElse, AreShapedItems, IsShaped}
+use Rattle.script_shape.specs.Shapes.{IsShapedExpr, AreShapedExprs, IsShapedStmt, IsShapedBlock, AreShapedBranches, IsShapedElse, AreShapedItems, IsShaped}
 use Rattle.parse_script.specs.Statements as st
 use Rattle.mono_syntax.specs.Limits.{greatest_integer, greatest_weight}
 use Rattle.parse_script.specs.Statements.{DerivesStmt, DerivesTail, DerivesBlock, DerivesStmts}
@@ -182,10 +182,10 @@ whole_shaped room ts e d h = expr_shaped d.1 h
 -- ---- statements
 
 mutual
-  stmt_shaped : {i : Bool} {d : ℕ} {ts : List Spelled} {s : stmt.Stmt} → DerivesStmt i d ts s → AllFit ts → IsShapedStmt s
+  stmt_shaped : {i : Bool} {d : ℕ} {ts : List Spelled} {s : stmt.Stmt} → DerivesStmt i d ts s → AllFit ts → IsShapedStmt i s
   stmt_shaped (st.pass d p q) h = tt
-  stmt_shaped (st.give_none d p q i) h = tt
-  stmt_shaped (st.give d p q ts e i k) h = whole_shaped greatest_weight ts e k (front ts _ h.1)
+  stmt_shaped (st.give_none d p q i) h = i
+  stmt_shaped (st.give d p q ts e i k) h = (i, whole_shaped greatest_weight ts e k (front ts _ h.1))
   stmt_shaped (st.print d p q r s ts w es k l) h = args_shaped k (front ts _ h.1.1)
   stmt_shaped (st.assign d p q r x ts e k) h = whole_shaped greatest_weight ts e k (front ts _ h.1.1)
   stmt_shaped (st.declare d p q r s x us a ts e t k) h = whole_shaped greatest_weight ts e k (front ts _ (back us _ h.1.1).1)
@@ -199,7 +199,7 @@ mutual
   stmt_shaped (st.while d p q ts e us ss l k b) h = (whole_shaped greatest_weight ts e k (front ts _ h.1), block_shaped b (back ts _ h.1).1)
 
   tail_shaped : {i : Bool} {d : ℕ} {ts : List Spelled} {bs : List Branch} {el : stmt.Else} → DerivesTail i d ts bs el → AllFit ts
-      → AreShapedBranches (branches bs) × IsShapedElse el
+      → AreShapedBranches i (branches bs) × IsShapedElse i el
   tail_shaped (st.no_else d) h = (tt, tt)
   tail_shaped (st.elif d p q ts e us ss vs bs el k b t) h =
       let rest = (back ts _ h.1).1 in
@@ -207,16 +207,16 @@ mutual
       ((whole_shaped greatest_weight ts e k (front ts _ h.1), block_shaped b (front us vs rest), tail.0), tail.1)
   tail_shaped (st.otherwise d p q us ss b) h = (tt, block_shaped b h.1.1)
 
-  block_shaped : {i : Bool} {d : ℕ} {ts : List Spelled} {ss : List stmt.Stmt} → DerivesBlock i d ts ss → AllFit ts → IsShapedBlock (block ss)
+  block_shaped : {i : Bool} {d : ℕ} {ts : List Spelled} {ss : List stmt.Stmt} → DerivesBlock i d ts ss → AllFit ts → IsShapedBlock i (block ss)
   block_shaped (st.indented d p q r us ss k) h = stmts_shaped k (front us _ h.1.1)
 
-  stmts_shaped : {i : Bool} {d : ℕ} {ts : List Spelled} {ss : List stmt.Stmt} → DerivesStmts i d ts ss → AllFit ts → IsShapedBlock (block ss)
+  stmts_shaped : {i : Bool} {d : ℕ} {ts : List Spelled} {ss : List stmt.Stmt} → DerivesStmts i d ts ss → AllFit ts → IsShapedBlock i (block ss)
   stmts_shaped (st.one_stmt d ts s k) h = (stmt_shaped k h, tt)
   stmts_shaped (st.more_stmts d ts us s ss k l) h = (stmt_shaped k (front ts us h), stmts_shaped l (back ts us h))
 
 -- ---- scripts
 
-def_shaped : {ts : List Spelled} {f : FuncDef} → DerivesDef ts f → AllFit ts → IsShapedBlock (block f.body)
+def_shaped : {ts : List Spelled} {f : FuncDef} → DerivesDef ts f → AllFit ts → IsShapedBlock true (block f.body)
 def_shaped (ds.def p q r s t x us xs rs a bs ss k l b) h = block_shaped b (back rs _ (back us _ h.1.1.1).1).1
 
 items_shaped : {ts : List Spelled} {is : List Item} → DerivesItems ts is → AllFit ts → AreShapedItems is

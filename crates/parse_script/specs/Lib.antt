@@ -6,7 +6,5 @@ pub mod Statements
 pub mod Definitions
 -- the grammar of scripts, and how tokens are refused that have no tree
 pub mod Script
--- the shape of the trees that the grammar gives
-pub mod Shapes
 -- ---- what the code computes
 pub mod computed

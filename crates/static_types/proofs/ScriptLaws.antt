@@ -36,10 +36,10 @@ names_once cs [] [] (m ∷ ks) h k = absurd k
 names_once cs (t ∷ ts) [] ks h k = absurd h
 names_once cs (t ∷ ts) (n ∷ ns) [] h k = absurd k
 
-result_once : (cs : List ClassDef) (fs : List FuncDef) (d : FuncDef) (t u : Ty) (ns ks : Names) → IsFunctionScope cs fs d t ns → IsFunctionScope cs fs d u ks → t ≡ u
+pub result_once : (cs : List ClassDef) (fs : List FuncDef) (d : FuncDef) (t u : Ty) (ns ks : Names) → IsFunctionScope cs fs d t ns → IsFunctionScope cs fs d u ks → t ≡ u
 result_once cs fs d t u ns ks h k = one_any cs d.result t u h.declared k.declared
 
-function_scope_once : (cs : List ClassDef) (fs : List FuncDef) (d : FuncDef) (t u : Ty) (ns ks : Names) → IsFunctionScope cs fs d t ns → IsFunctionScope cs fs d u ks → ns ≡ ks
+pub function_scope_once : (cs : List ClassDef) (fs : List FuncDef) (d : FuncDef) (t u : Ty) (ns ks : Names) → IsFunctionScope cs fs d t ns → IsFunctionScope cs fs d u ks → ns ≡ ks
 function_scope_once cs fs d t u ns ks h k =
     let classes : ns.classes ≡ ks.classes = h.classes ∙ sym k.classes in
     let functions : ns.functions ≡ ks.functions = h.functions ∙ sym k.functions in
@@ -48,7 +48,7 @@ function_scope_once cs fs d t u ns ks h k =
     let result : ns.result ≡ ks.result = h.result ∙ ap Some (result_once cs fs d t u ns ks h k) ∙ sym k.result in
     λ j. record { classes = classes j; functions = functions j; values = values j; threads = threads j; result = result j }
 
-main_scope_once : (s : Script) (ns ks : Names) → IsMainScope s ns → IsMainScope s ks → ns ≡ ks
+pub main_scope_once : (s : Script) (ns ks : Names) → IsMainScope s ns → IsMainScope s ks → ns ≡ ks
 main_scope_once s ns ks h k =
     let classes : ns.classes ≡ ks.classes = h.classes ∙ sym k.classes in
     let functions : ns.functions ≡ ks.functions = h.functions ∙ sym k.functions in

@@ -29,6 +29,7 @@ member_of (t ∷ ts) x = member_type t x
 
 -- a call of a callee of the first of these types with arguments of the others
 abbrev pub CalleeRule : List Ty → Rule → Type 0
+-- of a callee of type `Dyn` nothing is known, so that any arguments will do
 CalleeRule (dyn ∷ ts) r = r ≡ takes (dyn ∷ all_dyn ts) dyn
 CalleeRule (fun ps t ∷ ts) r = (length ts ≡ length (tys_list ps)) × (r ≡ takes (dyn ∷ tys_list ps) t)
 CalleeRule ts r = ⊥
@@ -45,6 +46,7 @@ CallRule cs (Some d) ts r = NewRule cs d ts r
 CallRule cs None ts r = CalleeRule ts r
 
 abbrev pub RuleOf : Names → Expr → List Ty → Rule → Type 0
+-- a name has its type, and no parts
 RuleOf ns (expr.local w) ts r = NameType ns w.text r.gives × (r.asks ≡ [])
 RuleOf ns (expr.number p k) ts r = r ≡ takes [] int
 RuleOf ns (expr.text p x) ts r = r ≡ takes [] str
@@ -52,12 +54,17 @@ RuleOf ns (expr.truth p b) ts r = r ≡ takes [] bool
 RuleOf ns (expr.nil p) ts r = r ≡ takes [] nil
 RuleOf ns (expr.neg p a) ts r = r ≡ takes (int ∷ []) int
 RuleOf ns (expr.negation p a) ts r = r ≡ takes (bool ∷ []) bool
+-- an operator is used by its sort; a sum of two parts of type `Dyn` is one of anything
 RuleOf ns (expr.binary o p a b) ts r = r ≡ takes (operand_types (sort_of o) (is_dyn_sum o ts)) (operator_type (sort_of o) (is_dyn_sum o ts))
 RuleOf ns (expr.both a b) ts r = r ≡ takes (bool ∷ bool ∷ []) bool
 RuleOf ns (expr.either a b) ts r = r ≡ takes (bool ∷ bool ∷ []) bool
+-- a read has the type of the field, and asks nothing more of its owner
 RuleOf ns (expr.read a w) ts r = (member_of ts w.text ≡ Some r.gives) × (r.asks ≡ dyn ∷ [])
+-- a written cast uses its part at the type that it writes, and has this type
 RuleOf ns (expr.cast p a e) ts r = Writes ns.classes a r.gives × (r.asks ≡ r.gives ∷ [])
+-- a call of a class makes an object of it, and any other calls its callee
 RuleOf ns (expr.call p f es) ts r = CallRule ns.classes (class_called ns.classes f) ts r
+-- a join has the type of what its thread gives, and no parts
 RuleOf ns (expr.join p w) ts r = (type_of_name ns.threads w.text ≡ Some r.gives) × (r.asks ≡ [])
 
 -- ---- where there is no rule
@@ -88,9 +95,15 @@ ann_place (ann p form) = p
 -- A name that stands for nothing, and a join of nothing, have no type either. The names of a script are looked at before its types,
 -- so no script that comes here has one.
 abbrev pub RuleFault : Names → Expr → List Ty → Refusal → Type 0
+-- a name that stands for nothing
 RuleFault ns (expr.local w) ts f = ((t : Ty) → NameType ns w.text t → ⊥) × (f ≡ at w.place UnknownName)
+-- a field that no value of the owner's type has
 RuleFault ns (expr.read a w) ts f = (member_of ts w.text ≡ None) × (f ≡ at w.place NoField)
+-- an annotation that writes no type
 RuleFault ns (expr.cast p a e) ts f = ((t : Ty) → Writes ns.classes a t → ⊥) × (f ≡ at (ann_place a) UnknownName)
+-- too many or too few arguments, or a callee that is no function
 RuleFault ns (expr.call p g es) ts f = CallFault ns.classes (class_called ns.classes g) p ts f
+-- a join of what isn't started
 RuleFault ns (expr.join p w) ts f = (type_of_name ns.threads w.text ≡ None) × (f ≡ at w.place Misused)
+-- all others have a rule
 RuleFault ns e ts f = ⊥

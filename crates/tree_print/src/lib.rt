@@ -10,4 +10,5 @@ mod statements;
 mod tokens;
 mod types;
 
+pub use cast_lines::print_casts;
 pub use printing::print_script;

@@ -8,7 +8,8 @@ use Rattle.mono_syntax.specs.declared.tree.ClassDef.{ClassDef}
 use Rattle.script_rules.specs.Definitions.{class_named}
 use Rattle.script_rules.specs.FirstFault.{no_later}
 use Rattle.class_types.specs.computed.FoundFaults.{first_from, found, In}
-use Rattle.class_types.specs.computed.Made.{place_in, names_of_classes}
+use Rattle.class_types.specs.computed.Made.{names_of_classes}
+use Rattle.name_places.specs.Places.{place_in}
 use Rattle.script_rules.specs.Recursion.{Leads, field_names}
 use Rattle.std.specs.Prelude.{Contains}
 

@@ -9,15 +9,8 @@ use Rattle.mono_syntax.specs.Ann.{Ann, ann, Anns, no_anns, more_anns}
 use Rattle.mono_syntax.specs.Ann as form
 use Rattle.mono_syntax.specs.Ty.{Ty, dyn, int, bool, str, nil, fun, obj, Tys, no_tys, more_tys, Fields, no_fields, more_fields}
 use Rattle.mono_tree.specs.Meet.{both}
+use Rattle.name_places.specs.Places.{place_in}
 use Rattle.script_rules.specs.Writes.{in_order}
-
--- the first place of a name, where the list begins at this number
-abbrev pub place_from : ℕ → List (List ℕ) → List ℕ → Option ℕ
-place_from i [] x = None
-place_from i (n ∷ ns) x = if bytes_eq n x then Some i else place_from (i + 1) ns x
-
-abbrev pub place_in : List (List ℕ) → List ℕ → Option ℕ
-place_in ns x = place_from 0 ns x
 
 -- what is known at a place; where there is none, another answer
 abbrev pub known_at : {A : Type 0} → List (Option A) → Option A → Option ℕ → Option A

@@ -7,7 +7,8 @@ use Rattle.script_rules.specs.Definitions.{class_named}
 use Rattle.script_rules.specs.FirstFault.{no_later}
 use Rattle.script_rules.specs.Recursion.{field_names}
 use Rattle.class_types.specs.computed.Leading.{recursive_at}
-use Rattle.class_types.specs.computed.Made.{place_in, names_of_classes}
+use Rattle.class_types.specs.computed.Made.{names_of_classes}
+use Rattle.name_places.specs.Places.{place_in}
 
 abbrev pub rank_at : List ℕ → Option ℕ → ℕ
 rank_at ranks None = 0

@@ -13,8 +13,9 @@ use Rattle.known_names.specs.declared.known.Local.{Local}
 use Rattle.consistency.specs.declared.parts.Parts.{Parts}
 use Rattle.consistency.specs.declared.parts.Whole.{Whole}
 use Rattle.consistency.specs.declared.trace.Trace.{Trace}
-use Rattle.consistency.specs.computed.Ruled.{ruled, first_apart, called_class}
-use Rattle.consistency.specs.computed.Steps.{and_then}
+use Rattle.rule_choice.specs.computed.Ruled.{ruled, called_class}
+use Rattle.rule_choice.specs.computed.Apart.{first_apart}
+use Rattle.rule_choice.specs.computed.Steps.{and_then}
 use Rattle.consistency.specs.computed.Traces.{with_expr}
 
 abbrev pub no_parts : Trace → Parts

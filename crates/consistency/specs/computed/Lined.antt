@@ -10,15 +10,17 @@ use Rattle.mono_syntax.specs.Stmt.{Stmt, Block, no_stmts, more_stmts, Branches, 
 use Rattle.mono_syntax.specs.Ty.{Ty, dyn, bool}
 use Rattle.mono_tree.specs.TypedPrograms.{type_of_name}
 use Rattle.static_types.specs.Lines.{returned}
-use Rattle.static_types.specs.Rules.{at}
+use Rattle.static_types.specs.Rules.{at, member_of}
 use Rattle.known_names.specs.declared.known.Known.{Known}
 use Rattle.known_names.specs.declared.known.Local.{Local}
 use Rattle.consistency.specs.declared.lines.State.{State}
 use Rattle.consistency.specs.declared.parts.Parts.{Parts}
 use Rattle.consistency.specs.declared.trace.Trace.{Trace}
 use Rattle.consistency.specs.computed.Checked.{no_parts, with_part, all_typed, typed}
-use Rattle.consistency.specs.computed.Ruled.{first_apart, first_member, first_rule}
-use Rattle.consistency.specs.computed.Steps.{and_then}
+use Rattle.rule_choice.specs.GivenParts.{types_of}
+use Rattle.rule_choice.specs.computed.Ruled.{first_rule}
+use Rattle.rule_choice.specs.computed.Apart.{first_apart}
+use Rattle.rule_choice.specs.computed.Steps.{and_then}
 
 -- one more started name
 abbrev pub with_thread : Local → List ℕ → Ty → Local
@@ -73,7 +75,7 @@ abbrev mutual
   line_typed ks s (stmt.give p e) = and_then (first_typed ks s (returned p e)) (λ x. return_used s.local.result p s.local x)
   line_typed ks s (stmt.print p es) = any_line s.local (all_typed ks s.local (no_parts s.trace) es)
   line_typed ks s (stmt.assign w a e) = and_then (first_typed ks s e) (λ x. assign_used (type_of_name s.local.values w.text) w s.local x)
-  line_typed ks s (stmt.write o w e) = and_then (two_typed ks s o e) (λ x. write_used (first_member x.parts w.text) w s.local x)
+  line_typed ks s (stmt.write o w e) = and_then (two_typed ks s o e) (λ x. write_used (member_of (types_of x.parts) w.text) w s.local x)
   line_typed ks s (stmt.start w p f es) = and_then (row_typed ks s f es) (λ x. start_used (type_of_name s.local.threads w.text) w p s.local x)
   line_typed ks s (stmt.plain e) = any_line s.local (first_typed ks s e)
   line_typed ks s (stmt.if_any bs last) = and_then (branches_typed ks s bs) (λ t. else_typed ks t last)

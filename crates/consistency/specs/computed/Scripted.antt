@@ -1,5 +1,5 @@
 -- Computed: the types of a script as the code finds them.
-use Rattle.std.specs.Prelude.{◌+◌, List, [], ◌∷◌, Bool, Option, Some, None, Result, Ok, Err, if◌then◌else◌}
+use Rattle.std.specs.Prelude.{List, [], ◌∷◌, Option, Some, None, Result, Ok, Err, if◌then◌else◌}
 use Rattle.mono_syntax.specs.declared.refusal.Reason.TheVariants.{Inconsistent}
 use Rattle.mono_syntax.specs.declared.refusal.Refusal.{Refusal}
 use Rattle.mono_syntax.specs.declared.script.Scoped.{Scoped}
@@ -7,24 +7,19 @@ use Rattle.mono_syntax.specs.declared.script.Typed.{Typed}
 use Rattle.mono_syntax.specs.declared.tree.FuncDef.{FuncDef}
 use Rattle.mono_syntax.specs.declared.tree.Item.{Item}
 use Rattle.mono_syntax.specs.declared.tree.Item.TheVariants as item
-use Rattle.mono_syntax.specs.Stmt.{Block, no_stmts, more_stmts}
 use Rattle.mono_syntax.specs.StmtView.{block}
 use Rattle.mono_syntax.specs.Ty.{Ty, nil}
-use Rattle.static_types.specs.BodyEnds.{may_end, statement_may_end}
+use Rattle.static_types.specs.BodyEnds.{may_end}
 use Rattle.static_types.specs.Rules.{at}
 use Rattle.known_names.specs.declared.known.Known.{Known}
+use Rattle.known_names.specs.declared.known.KnownScript.{KnownScript}
 use Rattle.known_names.specs.declared.known.Local.{Local}
-use Rattle.known_names.specs.computed.Gathered.{known_in, function_names, main_names}
-use Rattle.known_names.specs.computed.TypeList.{consistent}
+use Rattle.known_names.specs.computed.TypeTests.{consistent}
+use Rattle.consistency.specs.declared.lines.State.{State}
 use Rattle.consistency.specs.declared.script.Done.{Done}
 use Rattle.consistency.specs.declared.trace.Trace.{Trace}
 use Rattle.consistency.specs.computed.Lined.{line_typed, block_typed}
-use Rattle.consistency.specs.computed.Steps.{and_then}
-
--- whether a body may end behind its last statement; before, it may or not
-abbrev pub ends_behind : Bool → Block → Bool
-ends_behind before no_stmts = before
-ends_behind before (more_stmts s rest) = ends_behind (statement_may_end s) rest
+use Rattle.rule_choice.specs.computed.Steps.{and_then}
 
 -- a function's end gives `None`, if its body may end
 abbrev pub end_at : Ty → FuncDef → Trace → Result Trace Refusal
@@ -37,25 +32,31 @@ function_end (Some t) d b = if may_end (block d.body) then end_at t d b else Ok 
 abbrev pub body_typed : Known → Local → FuncDef → Trace → Result Trace Refusal
 body_typed ks l d b = and_then (block_typed ks (record { local = l; trace = b }) (block d.body)) (λ x. function_end l.result d x.trace)
 
--- one more item; a class has no expressions
-abbrev pub item_typed : Scoped → Known → Done → Item → Result Done Refusal
-item_typed d ks n (item.Class c) = Ok n
-item_typed d ks n (item.Def f) =
-    and_then (body_typed ks (function_names d n.functions) f n.state.trace) (λ b. Ok (record { state = record { local = n.state.local; trace = b }; functions = n.functions + 1 }))
-item_typed d ks n (item.Stmt s) = and_then (line_typed ks n.state s) (λ t. Ok (record { state = t; functions = n.functions }))
+-- one more function, where these are what the bodies to come may name; there is one for each function
+abbrev pub function_typed : Known → State → List Local → FuncDef → Result Done Refusal
+function_typed ks t [] f = Ok (record { state = t; bodies = [] })
+function_typed ks t (l ∷ ls) f =
+    and_then (body_typed ks l f t.trace) (λ b. Ok (record { state = record { local = t.local; trace = b }; bodies = ls }))
 
-abbrev pub items_typed : Scoped → Known → Done → List Item → Result Done Refusal
-items_typed d ks n [] = Ok n
-items_typed d ks n (i ∷ is) = and_then (item_typed d ks n i) (λ m. items_typed d ks m is)
+-- one more item; a class has no expressions
+abbrev pub item_typed : Known → Done → Item → Result Done Refusal
+item_typed ks n (item.Class c) = Ok n
+item_typed ks n (item.Def f) = function_typed ks n.state n.bodies f
+item_typed ks n (item.Stmt s) = and_then (line_typed ks n.state s) (λ t. Ok (record { state = t; bodies = n.bodies }))
+
+abbrev pub items_typed : Known → Done → List Item → Result Done Refusal
+items_typed ks n [] = Ok n
+items_typed ks n (i ∷ is) = and_then (item_typed ks n i) (λ m. items_typed ks m is)
 
 abbrev pub no_exprs_yet : Trace
 no_exprs_yet = record { types = []; exprs = [] }
 
-abbrev pub begun : Scoped → Done
-begun d = record { state = record { local = main_names d; trace = no_exprs_yet }; functions = 0 }
+abbrev pub begun : Local → List Local → Done
+begun main bodies = record { state = record { local = main; trace = no_exprs_yet }; bodies = bodies }
 
 abbrev pub typed_script : Scoped → Done → Typed
 typed_script d n = record { scoped = d; types = n.state.trace.types; exprs = n.state.trace.exprs }
 
-abbrev pub checked : Scoped → Result Typed Refusal
-checked d = and_then (items_typed d (known_in d) (begun d) d.script.items) (λ n. Ok (typed_script d n))
+-- the script whose names are known so
+abbrev pub checked : Scoped → KnownScript → Result Typed Refusal
+checked d ks = and_then (items_typed ks.names (begun ks.main ks.bodies) d.script.items) (λ n. Ok (typed_script d n))

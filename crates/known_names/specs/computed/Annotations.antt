@@ -9,7 +9,7 @@ use Rattle.mono_syntax.specs.Ann as form
 use Rattle.mono_syntax.specs.Ty.{Ty, dyn, int, bool, str, nil, fun}
 use Rattle.mono_syntax.specs.TyView.{tys}
 use Rattle.mono_tree.specs.TypedPrograms.{type_of_name}
-use Rattle.known_names.specs.computed.TypeList.{type_or_dyn}
+use Rattle.known_names.specs.computed.TypeTests.{type_or_dyn}
 
 abbrev mutual
   -- the type that the annotation writes, where the classes have these types

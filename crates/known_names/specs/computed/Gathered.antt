@@ -10,9 +10,10 @@ use Rattle.mono_syntax.specs.declared.tree.Item.TheVariants as item
 use Rattle.mono_syntax.specs.Ty.{Ty, dyn, fun}
 use Rattle.known_names.specs.declared.known.Known.{Known}
 use Rattle.known_names.specs.declared.known.KnownClass.{KnownClass}
+use Rattle.known_names.specs.declared.known.KnownScript.{KnownScript}
 use Rattle.known_names.specs.declared.known.Local.{Local}
 use Rattle.known_names.specs.computed.Annotations.{known_fields}
-use Rattle.known_names.specs.computed.TypeList.{type_at}
+use Rattle.known_names.specs.computed.TypeTests.{type_at}
 
 -- ---- classes and functions
 
@@ -60,8 +61,8 @@ known_with d cs = record {
   functions = function_types d.types d.functions [] d.script.items;
 }
 
-abbrev pub known_in : Scoped → Known
-known_in d = known_with d (class_types d.types d.classes [] d.script.items)
+abbrev pub script_names : Scoped → Known
+script_names d = known_with d (class_types d.types d.classes [] d.script.items)
 
 -- ---- blocks
 
@@ -96,3 +97,12 @@ function_names d n = local_at d n (Some (declared_result d n))
 -- what the main block may name at its start
 abbrev pub main_names : Scoped → Local
 main_names d = local_at d (length d.functions) None
+
+-- what the bodies of the functions may, whose types stand at these places, behind those that are done
+abbrev pub bodies_from : Scoped → List Local → List TyAt → List Local
+bodies_from d done [] = done
+bodies_from d done (a ∷ places) = bodies_from d (done ++ function_names d (length done) ∷ []) places
+
+-- all that is known
+abbrev pub gathered : Scoped → KnownScript
+gathered d = record { names = script_names d; bodies = bodies_from d [] d.functions; main = main_names d }

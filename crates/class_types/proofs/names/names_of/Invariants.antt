@@ -1,10 +1,6 @@
 use Rattle.std.proofs.Common.{◌≡◌, ◌++◌, map, drop}
-use Rattle.class_types.specs.computed.Firsts.{AreFirsts}
 use Rattle.class_types.specs.computed.Made.{names_of_classes}
 use Rattle.class_types.proofs.names.names_of.Given as goal
 
 abbrev pub invariant-loop-class : goal.invariant-loop-class
-invariant-loop-class l = record {
-  names : l.names ++ names_of_classes (map (λ d. d.now) (drop l.class-index l.classes)) ≡ names_of_classes (map (λ d. d.now) l.classes);
-  firsts : AreFirsts l.firsts l.names;
-}
+invariant-loop-class l = l.names ++ names_of_classes (map (λ d. d.now) (drop l.class-index l.classes)) ≡ names_of_classes (map (λ d. d.now) l.classes)

@@ -4,7 +4,8 @@ use Rattle.std.specs.Option.{option_map}
 use Rattle.std.proofs.lemmas.List.{length-map}
 use Rattle.std.proofs.lemmas.Option.{slice_get-map, slice_get_read}
 use Rattle.script_rules.specs.Recursion.{field_names}
-use Rattle.class_types.specs.computed.Made.{names_of_classes, place_in}
+use Rattle.class_types.specs.computed.Made.{names_of_classes}
+use Rattle.name_places.specs.Places.{place_in}
 use Rattle.class_types.specs.computed.Ranks.{rises}
 use Rattle.class_types.proofs.RankLaws.{fall-next, fall-all}
 use Rattle.class_types.proofs.ranks.any_rises.Goals.{then-is_first+in_ok-words+else-rises, else-is_first}

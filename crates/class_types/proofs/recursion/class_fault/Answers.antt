@@ -1,7 +1,8 @@
 use Rattle.std.proofs.Common.{◌≡◌, ◌∙◌, sym, ap, subst, map, Some, false}
 use Rattle.class_types.specs.computed.FoundFaults.{found}
 use Rattle.class_types.specs.computed.Leading.{word_fault}
-use Rattle.class_types.specs.computed.Made.{names_of_classes, place_in}
+use Rattle.class_types.specs.computed.Made.{names_of_classes}
+use Rattle.name_places.specs.Places.{place_in}
 use Rattle.class_types.specs.computed.Ranks.{may_be_first}
 use Rattle.script_rules.specs.Recursion.{field_names}
 use Rattle.class_types.proofs.RecursionLaws.{adds-later, adds-named}

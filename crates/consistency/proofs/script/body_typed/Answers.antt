@@ -5,7 +5,7 @@ use Rattle.known_names.specs.computed.Gives.{Gives}
 use Rattle.consistency.specs.declared.lines.State.{State}
 use Rattle.consistency.specs.computed.Lined.{block_typed}
 use Rattle.consistency.specs.computed.Scripted.{function_end}
-use Rattle.consistency.proofs.Matched.{stopped}
+use Rattle.rule_choice.proofs.Given.{stopped}
 use Rattle.consistency.proofs.script.body_typed.Goals as goal
 
 -- src/script.rt:58:1

@@ -1,7 +1,8 @@
 use Rattle.std.proofs.Common.{◌≡◌, ◌∙◌, ap, sym, subst}
 use Rattle.mono_syntax.specs.declared.tree.Script.{Script}
 use Rattle.mono_cli.specs.declared.words.Verb.{Verb}
-use Rattle.mono_cli.specs.Scripts.{IsAccepted, IsListing}
+use Rattle.mono_cli.specs.Answer.{passed}
+use Rattle.mono_cli.specs.Scripts.{IsAccepted, IsCastList, IsListing}
 use Rattle.mono_cli.proofs.Shown.{shows_also}
 use Rattle.mono_cli.proofs.run.show_accepted.Goals as goal
 
@@ -11,3 +12,15 @@ returns-in-Show g c =
     shows_also (λ a. IsListing c.get-in-Show.result.now a) (λ a. IsAccepted c.args.verb c.args.script.now a)
     (λ a h. subst (λ (v : Verb). IsAccepted v c.args.script.now a) (sym c.in-Show.is) (subst (λ (s : Script). IsListing s a) same h))
     _ _ _ _ _ _ _ _ _ (c.show_listing.ensures (g.E.Sink.told c.args.err.now) (g.E.Sink.faults c.args.err.now))
+
+pub returns-in-Check : goal.returns-in-Check
+returns-in-Check g c =
+    shows_also (λ a. a ≡ passed) (λ a. IsAccepted c.args.verb c.args.script.now a)
+    (λ a h. subst (λ (v : Verb). IsAccepted v c.args.script.now a) (sym c.in-Check.is) h)
+    _ _ _ _ _ _ _ _ _ (c.show_passed.ensures (g.E.Sink.told c.args.err.now) (g.E.Sink.faults c.args.err.now))
+
+pub returns-in-Casts : goal.returns-in-Casts
+returns-in-Casts g c =
+    shows_also (λ a. IsCastList c.args.script.now a) (λ a. IsAccepted c.args.verb c.args.script.now a)
+    (λ a h. subst (λ (v : Verb). IsAccepted v c.args.script.now a) (sym c.in-Casts.is) h)
+    _ _ _ _ _ _ _ _ _ (c.show_casts.ensures (g.E.Sink.told c.args.err.now) (g.E.Sink.faults c.args.err.now))

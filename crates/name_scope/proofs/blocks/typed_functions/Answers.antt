@@ -1,9 +1,12 @@
-use Rattle.std.proofs.Common.{List, [], ◌∷◌, take, sym, subst}
+use Rattle.std.proofs.Common.{List, [], ◌∷◌, take, refl, sym, subst}
+use Rattle.mono_syntax.specs.declared.leaf.TyAt.{TyAt}
+use Rattle.mono_syntax.specs.declared.script.BlockNames.{BlockNames}
+use Rattle.class_types.proofs.PlaceLaws.{begins-refl}
 use Rattle.mono_syntax.specs.declared.tree.FuncDef.{FuncDef}
 use Rattle.mono_syntax.specs.declared.tree.Script.{Script}
 use Rattle.script_rules.specs.Definitions.{functions_of}
-use Rattle.script_rules.specs.Scoping.{class_list}
-use Rattle.name_scope.specs.computed.Typing.{AreTypable, FunctionsTyped}
+use Rattle.script_rules.specs.Scoping.{class_list, FunctionsStand}
+use Rattle.name_scope.specs.computed.Typing.{AreTypable, FunctionBlocksStand, FunctionsTyped}
 use Rattle.name_scope.proofs.TypedFunctionLaws.{functions_done, functions_left}
 use Rattle.name_scope.proofs.blocks.typed_functions.Goals as goal
 
@@ -23,4 +26,16 @@ loop-item-preserved c =
           (functions_done c.args.items.now c.loop-item.item-index c.item-item.result c.loop-item-test.true c.item-item.is)
           (c.in_ok-state.ensures c.args.known (functions_of (take c.loop-item.item-index c.args.items.now)) c.loop-item.invariant.done);
       left = left.1;
+    }
+
+pub loop-item-init : goal.loop-item-init
+loop-item-init c =
+    let known = c.args.known in
+    record {
+      done = record {
+        functions = subst (λ (l : List TyAt). FunctionsStand (class_list known.script) known.types [] l) (sym c.new.ensures) tt;
+        names = subst (λ (l : List BlockNames). FunctionBlocksStand (class_list known.script) known.types [] l) (sym c.new-2.ensures) tt;
+        keeps = record { holds = c.requires.holds; script = refl; classes = refl; types = begins-refl known.types };
+      };
+      left = c.requires.typable;
     }

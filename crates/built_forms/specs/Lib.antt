@@ -1,4 +1,0 @@
--- Rules.
-
--- the trees that the program runs so far
-pub mod BuiltTrees

@@ -1,0 +1,58 @@
+ghost use Rattle.std.specs.Prelude.{◌≡◌, IfOk};
+ghost use Rattle.known_names.specs.computed.TypeList.{with_type};
+ghost use Rattle.cast_insert.specs.computed.Scripted.{with_site, with_sites, no_sites};
+
+use cast_rules::TypedSite;
+use known_names::{Placed, TypeList, with_type};
+use mono_list::Shared;
+use mono_syntax::{LoadFault, Site, Ty};
+use sqlite_items::Items;
+use std::alloc::{AllocError, Global};
+
+/// Sites with their types by position, and the list of these types.
+#[derive(Drop)]
+pub struct Table {
+    pub types: TypeList,
+    pub sites: Items<Site>,
+}
+
+/// The position of a type in the list, which gets it at its end where it isn't there yet.
+fn placed(types: TypeList, ty: &Shared<Ty>) -> Result<Placed, AllocError>
+    ensures { IfOk result (λ p. p ≡ with_type types ty.now) }
+{
+    match with_type(types, ty) {
+        Ok(placed) => Ok(placed),
+        Err(LoadFault::Memory) => Err(AllocError),
+        Err(LoadFault::Refused(_)) => unreachable!(),
+    }
+}
+
+/// One more site.
+fn with_site(table: Table, site: &TypedSite) -> Result<Table, AllocError>
+    ensures { IfOk result (λ b. b ≡ with_site table site.now) }
+{
+    let Table { types, mut sites } = table;
+    let source = placed(types, &site.source)?;
+    let target = placed(source.types, &site.target)?;
+    sites.push(Site {
+        place: site.place,
+        kind: site.kind,
+        source: source.at,
+        target: target.at,
+    })?;
+    let types = target.types;
+    Ok(Table { types, sites })
+}
+
+/// All sites, with their types by position in the list of those that occur.
+pub fn table_of(alloc: Global, all: &[TypedSite]) -> Result<Table, AllocError>
+    ensures { IfOk result (λ b. b ≡ with_sites no_sites all.now) }
+{
+    let types = TypeList::new(alloc);
+    let sites = Items::new(alloc);
+    let mut table = Table { types, sites };
+    for site in all {
+        table = with_site(table, site)?;
+    }
+    Ok(table)
+}

@@ -1,0 +1,4 @@
+pub mod Steps
+pub mod Ruled
+pub mod Apart
+pub mod Ends

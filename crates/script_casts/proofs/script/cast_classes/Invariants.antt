@@ -1,6 +1,0 @@
-use Rattle.std.proofs.Common.{◌≡◌, take, map}
-use Rattle.script_casts.specs.computed.Lines.{class_of}
-use Rattle.script_casts.proofs.script.cast_classes.Given as goal
-
-abbrev pub invariant-loop-class : goal.invariant-loop-class
-invariant-loop-class l = l.all ≡ map class_of (take l.class-index l.classes)

@@ -1,5 +1,0 @@
-use Rattle.script_casts.proofs.TypeTests.{is_fully_static}
-use Rattle.script_casts.proofs.types.is_fully_static.Goals as goal
-
-pub returns : goal.returns
-returns c = is_fully_static c.is_static.result c.args.ty.now c.is_static.ensures

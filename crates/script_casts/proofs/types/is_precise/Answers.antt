@@ -1,5 +1,0 @@
-use Rattle.script_casts.proofs.TypeTests.{is_precise}
-use Rattle.script_casts.proofs.types.is_precise.Goals as goal
-
-pub returns : goal.returns
-returns c = is_precise c.precise.result c.args.a.now c.args.b.now c.precise.ensures

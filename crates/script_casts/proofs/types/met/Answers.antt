@@ -1,5 +1,0 @@
-use Rattle.script_casts.proofs.TypeTests.{is_meet}
-use Rattle.script_casts.proofs.types.met.Goals as goal
-
-pub returns : goal.returns
-returns c = is_meet c.meet.result c.args.a.now c.args.b.now c.meet.ensures.greatest c.meet.ensures.apart

@@ -1,0 +1,4 @@
+-- Rules.
+
+-- the shape of the trees that the grammar gives
+pub mod Shapes

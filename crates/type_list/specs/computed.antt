@@ -1,0 +1,2 @@
+-- Computed: what code computes.
+pub mod TypeList

@@ -1,9 +1,0 @@
-pub mod Writing
-pub mod Ordered
-pub mod Classes
-pub mod Extending
-pub mod TypedLaws
-pub mod UniqueLaws
-pub mod UniqueLines
-pub mod NameOrder
-pub mod ClassTypeLaws
