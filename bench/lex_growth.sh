@@ -12,7 +12,7 @@ program=$root/crates/lex_count/out/lex_count
 
 # The instructions of a script of so many bytes.
 count() {
-    repeated "$root/bench/ledger.mono" "$1" >"$work/script.py"
+    repeated "$root/examples/ledger.py" "$1" >"$work/script.py"
     counted "$program" <"$work/script.py" || fail "$1 bytes: $(head -c 300 "$work/err")"
     grep -Eq '^[0-9]+ tokens$' "$work/out" || fail "$1 bytes: $(head -c 300 "$work/out")"
     instructions

@@ -17,7 +17,7 @@ wanted='refused 1:1: not built yet'
 # The instructions of a script of so many bytes.
 count() {
     local status=0
-    repeated "$root/bench/ledger.mono" "$1" >"$work/script.py"
+    repeated "$root/examples/ledger.py" "$1" >"$work/script.py"
     [ "$(wc -c <"$work/script.py")" -eq "$1" ] || fail "the script hasn't $1 bytes"
     counted "$root/crates/mono/out/mono" step "$work/script.py" || status=$?
     [ "$status" -eq 1 ] && [ "$(cat "$work/err")" = "$wanted" ] && [ ! -s "$work/out" ] ||
