@@ -34,12 +34,12 @@ use Rattle.rule_choice.proofs.RuleLaws.{IsRuled, same_called, ruled_so}
 use Rattle.cast_insert.specs.declared.parts.Parts.{Parts}
 use Rattle.cast_insert.specs.declared.parts.Used.{Used}
 use Rattle.cast_insert.specs.declared.parts.Whole.{Whole}
-use Rattle.cast_insert.specs.declared.slots.Slots.{Slots}
+use Rattle.cast_nodes.specs.declared.slots.Slots.{Slots}
 use Rattle.cast_insert.specs.computed.Inserted.{used, allowed, made, no_parts, with_part, ended, parts_inserted, all_inserted, inserted}
-use Rattle.cast_insert.specs.computed.Noded.{node}
-use Rattle.cast_insert.specs.computed.Placed.{no_slots, put_own}
-use Rattle.cast_insert.proofs.NodeLaws.{node_so}
-use Rattle.cast_insert.proofs.SlotLaws.{behind, own_are}
+use Rattle.cast_nodes.specs.computed.Noded.{node}
+use Rattle.cast_nodes.specs.computed.Placed.{no_slots, put_own}
+use Rattle.cast_nodes.proofs.NodeLaws.{node_so}
+use Rattle.cast_nodes.proofs.SlotLaws.{behind, own_are}
 use Rattle.cast_insert.proofs.UsedLaws.{used_so_far, used_each_so}
 
 pub exprs_count : (ns : Names) (ss : List TypedSite) (es : List Expr) (ts : List Ty) (cs : List CastExpr) (us : List TypedSite) → ElaborateAll ns ss es ts cs us → length cs ≡ length es

@@ -1,11 +1,5 @@
-pub mod DynSites
-pub mod Rows
-pub mod NodeRows
-pub mod SlotLaws
 pub mod UsedLaws
-pub mod NodeLaws
 pub mod InsertLaws
-pub mod LineSlotLaws
 pub mod LineLaws
 pub mod KeepLaws
 pub mod TableLaws

@@ -26,7 +26,8 @@ use Rattle.mono_tree.proofs.PreciseTest.{precise-read}
 use Rattle.mono_tree.specs.TypedPrograms.{type_of_name}
 use Rattle.script_rules.specs.SourcePlaces.{place_of}
 use Rattle.static_types.specs.declared.rule.Rule.{Rule}
-use Rattle.static_types.specs.Lines.{returned, line_parts, AssignRule, WriteRule, ReturnRule, StartRule, LineRule, TypedLine, TypedGuarded, TypedBranches, TypedElse, TypedBlock}
+use Rattle.static_types.specs.Lines.{line_parts, AssignRule, WriteRule, ReturnRule, StartRule, LineRule, TypedLine, TypedGuarded, TypedBranches, TypedElse, TypedBlock}
+use Rattle.script_rules.specs.SourceCasts.{returned}
 use Rattle.static_types.specs.Lines as typed
 use Rattle.static_types.specs.Members.{all_dyn}
 use Rattle.static_types.specs.Names.{Names}
@@ -51,7 +52,7 @@ use Rattle.rule_choice.proofs.RuleLaws.{IsFirstCalled, first_so}
 use Rattle.cast_insert.specs.declared.parts.Parts.{Parts}
 use Rattle.cast_insert.specs.declared.parts.Used.{Used}
 use Rattle.cast_insert.specs.declared.parts.Whole.{Whole}
-use Rattle.cast_insert.specs.declared.slots.Slots.{Slots}
+use Rattle.cast_nodes.specs.declared.slots.Slots.{Slots}
 use Rattle.cast_insert.specs.declared.states.Body.{Body}
 use Rattle.cast_insert.specs.declared.states.Branched.{Branched}
 use Rattle.cast_insert.specs.declared.states.Condition.{Condition}
@@ -61,13 +62,13 @@ use Rattle.cast_insert.specs.declared.states.Line.{Line}
 use Rattle.cast_insert.specs.declared.states.LineUse.{LineUse}
 use Rattle.cast_insert.specs.declared.states.State.{State}
 use Rattle.cast_insert.specs.computed.Inserted.{allowed, used_each, no_parts, with_part, all_inserted, inserted}
-use Rattle.cast_insert.specs.computed.LineNodes.{put_line, line_node}
+use Rattle.cast_nodes.specs.computed.LineNodes.{put_line, line_node}
 use Rattle.cast_insert.specs.computed.Lined.{with_thread, line_use, start_use, use_of, line_parts_inserted, state, line_made, line_used, simple_line, condition_of, condition, first_inserted, begun, with_line, guarded, unbranched, branch, with_branch, looped, if_line, branched, last_block, line_inserted, block_inserted, branches_inserted, last_inserted}
-use Rattle.cast_insert.specs.computed.Noded.{fit_all}
-use Rattle.cast_insert.specs.computed.Placed.{no_slots, with_slot}
+use Rattle.cast_nodes.specs.computed.Noded.{fit_all}
+use Rattle.cast_nodes.specs.computed.Placed.{no_slots, with_slot}
 use Rattle.cast_insert.proofs.InsertLaws.{IsWhole, ArePartsOf, AreInserted, IsInserted, exprs_count, uses_count, no_more, typed_one, typed_row, all_so, expr_so}
-use Rattle.cast_insert.proofs.LineSlotLaws.{line_are, line_node_so}
-use Rattle.cast_insert.proofs.SlotLaws.{behind}
+use Rattle.cast_nodes.proofs.LineSlotLaws.{line_are, line_node_so}
+use Rattle.cast_nodes.proofs.SlotLaws.{behind}
 use Rattle.cast_insert.proofs.UsedLaws.{not_precise, used_each_so}
 
 consistent_count : (ss ts : List Ty) → AllConsistent ss ts → length ss ≡ length ts

@@ -40,18 +40,18 @@ use Rattle.known_names.specs.declared.known.KnownClass.{KnownClass}
 use Rattle.known_names.specs.declared.known.KnownScript.{KnownScript}
 use Rattle.known_names.specs.declared.known.Local.{Local}
 use Rattle.known_names.specs.IsKnown.{ClassesKnown, FunctionsKnown, IsKnown, names_in, IsFunctionLocal, BodiesKnown, IsKnownScript}
-use Rattle.cast_insert.specs.declared.slots.Slots.{Slots}
+use Rattle.cast_nodes.specs.declared.slots.Slots.{Slots}
 use Rattle.cast_insert.specs.declared.states.Body.{Body}
 use Rattle.cast_insert.specs.declared.states.Function.{Function}
 use Rattle.cast_insert.specs.declared.states.Line.{Line}
 use Rattle.cast_insert.specs.declared.states.Made.{Made}
 use Rattle.cast_insert.specs.computed.Lined.{state, begun, line_inserted, block_inserted}
-use Rattle.cast_insert.specs.computed.Noded.{site_at}
-use Rattle.cast_insert.specs.computed.Placed.{no_slots, with_slot}
+use Rattle.cast_nodes.specs.computed.Noded.{site_at}
+use Rattle.cast_nodes.specs.computed.Placed.{no_slots, with_slot}
 use Rattle.cast_insert.specs.computed.Scripted.{end_slot, function_of, function_made, with_function, items_made, nothing_made, with_sites, no_sites, class_of, script_of, script_made}
 use Rattle.cast_insert.proofs.KeepLaws.{block_keeps, items_keep}
 use Rattle.cast_insert.proofs.LineLaws.{IsLined, BodyIs, line_so, block_so}
-use Rattle.cast_insert.proofs.SlotLaws.{behind, behind_one}
+use Rattle.cast_nodes.proofs.SlotLaws.{behind, behind_one}
 use Rattle.cast_insert.proofs.TableLaws.{is_table}
 
 -- the number of a single slot

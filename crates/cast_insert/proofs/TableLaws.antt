@@ -9,9 +9,9 @@ use Rattle.mono_tree.specs.ClosedList.{AreDistinct}
 use Rattle.cast_rules.specs.declared.site.TypedSite.{TypedSite}
 use Rattle.cast_rules.specs.HasCasts.{IsOfSite}
 use Rattle.cast_rules.specs.Sites.{IsSiteOf, AreSites}
-use Rattle.known_names.specs.declared.type_list.Placed.{Placed}
-use Rattle.known_names.specs.computed.TypeList.{with_type}
-use Rattle.known_names.proofs.TypeListLaws.{Grows, stays, grows_on, is_placed, grown}
+use Rattle.type_list.specs.declared.list.Placed.{Placed}
+use Rattle.type_list.specs.computed.TypeList.{with_type}
+use Rattle.type_list.proofs.TypeListLaws.{Grows, stays, grows_on, is_placed, grown}
 use Rattle.cast_insert.specs.declared.numbering.Table.{Table}
 use Rattle.cast_insert.specs.computed.Scripted.{with_site, with_sites, no_sites}
 

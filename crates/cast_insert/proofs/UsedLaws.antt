@@ -19,11 +19,11 @@ use Rattle.cast_rules.specs.Sites.{site_from, site_unless, standing, numbered}
 use Rattle.rule_choice.specs.declared.parts.Part.{Part}
 use Rattle.rule_choice.specs.GivenParts.{types_of, AreAt}
 use Rattle.cast_insert.specs.declared.parts.Parts.{Parts}
-use Rattle.cast_insert.specs.declared.slots.Slots.{Slots}
+use Rattle.cast_nodes.specs.declared.slots.Slots.{Slots}
 use Rattle.cast_insert.specs.computed.Inserted.{used_each}
-use Rattle.cast_insert.specs.computed.Noded.{fitted, fit_all}
-use Rattle.cast_insert.specs.computed.Placed.{no_slots, put_casts}
-use Rattle.cast_insert.proofs.SlotLaws.{behind, cast_sites, casts_are}
+use Rattle.cast_nodes.specs.computed.Noded.{fitted, fit_all}
+use Rattle.cast_nodes.specs.computed.Placed.{no_slots, put_casts}
+use Rattle.cast_nodes.proofs.SlotLaws.{behind, cast_sites, casts_are}
 
 -- parts, each with its cast
 abbrev fit_each : List (Option ℕ) → List CastExpr → List CastExpr

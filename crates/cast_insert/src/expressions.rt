@@ -3,11 +3,9 @@ ghost use Rattle.mono_syntax.specs.ExprView.{exprs};
 ghost use Rattle.rule_choice.specs.computed.Ruled.{called_class, ruled};
 ghost use Rattle.cast_insert.specs.computed.Inserted.{allowed, made, whole, no_parts, with_part, ended, parts_inserted, all_inserted, inserted};
 
-use crate::nodes::node;
 use crate::parts::{Parts, Used, Whole, no_parts};
-use crate::sites::put_own;
-use crate::slots::no_slots;
 use crate::uses::used;
+use cast_nodes::{no_slots, node, put_own};
 use cast_rules::TypedSite;
 use known_names::{Known, Local};
 use mono_syntax::{Expr, ExprKind, LoadFault};

@@ -1,13 +1,12 @@
 ghost use Rattle.std.specs.Prelude.{◌≡◌, IfOk, Some, map};
 ghost use Rattle.cast_rules.specs.OwnSites.{end_of};
-ghost use Rattle.cast_insert.specs.computed.Placed.{no_slots, with_slot};
+ghost use Rattle.cast_nodes.specs.computed.Placed.{no_slots, with_slot};
 ghost use Rattle.cast_insert.specs.computed.Scripted.{end_slot, block_of, cast_function, function_of, function_made};
 
 use crate::line_uses::shared_type;
 use crate::lines::block_inserted;
-use crate::nodes::site_at;
-use crate::slots::{Slots, no_slots, tested_site, with_slot};
 use crate::states::{Body, Function, State};
+use cast_nodes::{Slots, no_slots, site_at, tested_site, with_slot};
 use cast_rules::TypedSite;
 use known_names::{Known, Local, new_type};
 use mono_list::Shared;

@@ -4,16 +4,11 @@
 
 mod expressions;
 mod functions;
-mod line_nodes;
 mod line_uses;
 mod lines;
-mod nodes;
 mod numbering;
-mod numbers;
 mod parts;
 mod script;
-mod sites;
-mod slots;
 mod states;
 mod uses;
 

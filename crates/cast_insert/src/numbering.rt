@@ -1,13 +1,11 @@
 ghost use Rattle.std.specs.Prelude.{◌≡◌, IfOk};
-ghost use Rattle.known_names.specs.computed.TypeList.{with_type};
 ghost use Rattle.cast_insert.specs.computed.Scripted.{with_site, with_sites, no_sites};
 
 use cast_rules::TypedSite;
-use known_names::{Placed, TypeList, with_type};
-use mono_list::Shared;
-use mono_syntax::{LoadFault, Site, Ty};
+use mono_syntax::Site;
 use sqlite_items::Items;
 use std::alloc::{AllocError, Global};
+use type_list::{TypeList, with_type};
 
 /// Sites with their types by position, and the list of these types.
 #[derive(Drop)]
@@ -16,24 +14,13 @@ pub struct Table {
     pub sites: Items<Site>,
 }
 
-/// The position of a type in the list, which gets it at its end where it isn't there yet.
-fn placed(types: TypeList, ty: &Shared<Ty>) -> Result<Placed, AllocError>
-    ensures { IfOk result (λ p. p ≡ with_type types ty.now) }
-{
-    match with_type(types, ty) {
-        Ok(placed) => Ok(placed),
-        Err(LoadFault::Memory) => Err(AllocError),
-        Err(LoadFault::Refused(_)) => unreachable!(),
-    }
-}
-
 /// One more site.
 fn with_site(table: Table, site: &TypedSite) -> Result<Table, AllocError>
     ensures { IfOk result (λ b. b ≡ with_site table site.now) }
 {
     let Table { types, mut sites } = table;
-    let source = placed(types, &site.source)?;
-    let target = placed(source.types, &site.target)?;
+    let source = with_type(types, &site.source)?;
+    let target = with_type(source.types, &site.target)?;
     sites.push(Site {
         place: site.place,
         kind: site.kind,

@@ -1,9 +1,8 @@
 ghost use Rattle.std.specs.Prelude.{◌≡◌, IfOk};
 ghost use Rattle.cast_insert.specs.computed.Inserted.{used_each, used};
 
-use crate::nodes::fit_all;
 use crate::parts::Used;
-use crate::slots::{no_slots, put_casts};
+use cast_nodes::{fit_all, no_slots, put_casts};
 use cast_rules::TypedSite;
 use mono_list::Shared;
 use mono_syntax::{CastExpr, Expr, ExprKind, Ty};

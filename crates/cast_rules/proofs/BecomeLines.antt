@@ -32,9 +32,10 @@ use Rattle.script_rules.specs.SourceParts.{Part, argument_list, any_ann, expr_pa
 use Rattle.script_rules.specs.SourcePlaces.{place_of}
 use Rattle.script_rules.specs.Writes.{IsFunctionType}
 use Rattle.static_types.specs.BodyEnds.{may_end}
-use Rattle.static_types.specs.Lines.{returned, line_parts}
+use Rattle.static_types.specs.Lines.{line_parts}
+use Rattle.script_rules.specs.SourceCasts.{returned}
 use Rattle.static_types.specs.Names.{Names}
-use Rattle.static_types.specs.Scripts.{AreNames}
+use Rattle.script_rules.specs.SourceCasts.{AreNames}
 use Rattle.cast_rules.specs.declared.site.TypedSite.{TypedSite}
 use Rattle.cast_rules.specs.ElaboratesLines.{ElaboratesLine, line, branches, loops, ElaboratesGuarded, guards, ElaborateBranches, no_branch, next_branch, ElaboratesElse, no_last, at_last, ElaboratesBlock, ends, goes_on}
 use Rattle.cast_rules.specs.HasCasts.{ElaboratesFunction, ElaborateItems, no_item, class_item, function_item, line_item, HasCasts}

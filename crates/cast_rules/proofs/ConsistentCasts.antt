@@ -28,7 +28,8 @@ use Rattle.mono_tree.proofs.Order.{reflexive}
 use Rattle.script_rules.specs.SourcePlaces.{place_of}
 use Rattle.static_types.specs.BodyEnds.{may_end}
 use Rattle.static_types.specs.declared.rule.Rule.{Rule}
-use Rattle.static_types.specs.Lines.{line_parts, returned}
+use Rattle.static_types.specs.Lines.{line_parts}
+use Rattle.script_rules.specs.SourceCasts.{returned}
 use Rattle.static_types.specs.Names.{Names}
 use Rattle.static_types.specs.Operators.{Sort, arithmetic, comparison, equality, sort_of, is_dyn_sum}
 use Rattle.static_types.specs.Parts.{class_called, parts}

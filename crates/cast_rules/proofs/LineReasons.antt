@@ -32,7 +32,8 @@ use Rattle.script_shape.specs.Shapes.{IsShapedStmt, IsShapedBlock, AreShapedBran
 use Rattle.static_types.specs.LineFaults.{StartFault, LineRuleFault, LineFault, in_part, no_rule, at_use, in_branches as in_branches_fault, in_else, in_loop, GuardedFault, in_condition, at_condition, in_guarded, BranchFault, in_branch, in_later_branch, BlockFault, in_this, in_rest}
 use Rattle.static_types.specs.Lines.{line_parts}
 use Rattle.static_types.specs.Names.{Names}
-use Rattle.static_types.specs.Scripts.{AreNames, FunctionFault, in_body, at_end, ItemFault, in_function as in_function_fault, in_line, behind_class, behind_function, behind_line, IsTypeFault}
+use Rattle.static_types.specs.Scripts.{FunctionFault, in_body, at_end, ItemFault, in_function as in_function_fault, in_line, behind_class, behind_function, behind_line, IsTypeFault}
+use Rattle.script_rules.specs.SourceCasts.{AreNames}
 use Rattle.class_types.proofs.OrderLaws.{In, in-left, in-contains}
 use Rattle.cast_rules.specs.TypingReasons.{IsTypingReason, inconsistent, no_field}
 use Rattle.cast_rules.proofs.ApartNames.{start_gives, faultless, function_part, main_part, first_target}

@@ -26,7 +26,7 @@ use Rattle.script_rules.specs.WellFormed.{AreApart}
 use Rattle.script_rules.specs.Writes.{WritesAny, ParamTypes}
 use Rattle.script_rules.specs.declared.occurrence.Occurrence.{Occurrence}
 use Rattle.script_rules.specs.declared.occurrence.Role.TheVariants as role
-use Rattle.static_types.specs.Scripts.{AreNames}
+use Rattle.script_rules.specs.SourceCasts.{AreNames}
 use Rattle.static_types.proofs.Writing.{one_any}
 use Rattle.cast_rules.proofs.Standing.{nothing, head_stands, tail_stands, first_or, map_stands}
 

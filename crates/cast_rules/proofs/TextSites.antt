@@ -26,11 +26,12 @@ use Rattle.script_rules.specs.BlockNames.{firsts, all_targets}
 use Rattle.script_rules.specs.Scoping.{class_list, main_block}
 use Rattle.script_rules.specs.SourcePlaces.{place_of}
 use Rattle.static_types.specs.BodyEnds.{may_end}
-use Rattle.static_types.specs.Lines.{returned}
+use Rattle.script_rules.specs.SourceCasts.{returned}
 use Rattle.static_types.specs.Names.{Names}
 use Rattle.static_types.specs.Operators.{Sort, arithmetic, comparison, equality, sort_of, is_dyn_sum}
 use Rattle.static_types.specs.Parts.{class_called}
-use Rattle.static_types.specs.Scripts.{AreNames, IsFunctionScope, IsMainScope}
+use Rattle.static_types.specs.Scripts.{IsFunctionScope, IsMainScope}
+use Rattle.script_rules.specs.SourceCasts.{AreNames}
 use Rattle.cast_rules.specs.declared.site.TypedSite.{TypedSite}
 use Rattle.cast_rules.specs.Elaborates.{Uses, as_it_is, with_cast, UsesEach, uses_none, uses_more, uses_of, Elaborates, elaborates, ElaborateAll, of_none, of_more}
 use Rattle.cast_rules.specs.ElaboratesLines.{ElaboratesLine, line, branches, loops, ElaboratesGuarded, guards, ElaborateBranches, no_branch, next_branch, ElaboratesElse, no_last, at_last, ElaboratesBlock, ends, goes_on}

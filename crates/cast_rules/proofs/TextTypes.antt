@@ -28,7 +28,7 @@ use Rattle.static_types.specs.Operators.{Sort, arithmetic, comparison, equality,
 use Rattle.static_types.specs.Parts.{class_called}
 use Rattle.static_types.specs.declared.rule.Rule.{Rule}
 use Rattle.static_types.specs.Rules.{member_of, CalleeRule, NewRule, CallRule, RuleOf}
-use Rattle.static_types.specs.Scripts.{AreNames}
+use Rattle.script_rules.specs.SourceCasts.{AreNames}
 use Rattle.cast_rules.specs.TextNames.{AreTextFields, HaveTextFields}
 
 -- ---- types that are written

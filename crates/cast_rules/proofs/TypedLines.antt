@@ -19,7 +19,8 @@ use Rattle.script_rules.specs.Scoping.{class_list, function_list}
 use Rattle.script_rules.specs.SourceCasts.{BecomeClasses}
 use Rattle.script_rules.specs.SourcePlaces.{place_of}
 use Rattle.script_shape.specs.Shapes.{IsShapedExpr, IsBranched, IsShapedStmt, IsShapedBlock, AreShapedBranches, IsShapedElse}
-use Rattle.static_types.specs.Lines.{line_parts, AssignRule, WriteRule, ReturnRule, StartRule, LineRule, returned}
+use Rattle.static_types.specs.Lines.{line_parts, AssignRule, WriteRule, ReturnRule, StartRule, LineRule}
+use Rattle.script_rules.specs.SourceCasts.{returned}
 use Rattle.static_types.specs.Members.{member_type}
 use Rattle.static_types.specs.Names.{Names}
 use Rattle.static_types.specs.Rules.{member_of}

@@ -12,8 +12,6 @@ pub mod Elaborates
 pub mod ElaboratesLines
 -- the same of a script
 pub mod HasCasts
--- the types that a script writes, in source order
-pub mod ScriptTypes
 -- what typing can refuse a script for
 pub mod TypingReasons
 -- field names that are text

@@ -14,7 +14,7 @@ use Rattle.mono_syntax.specs.Ty.{Ty, nil}
 use Rattle.mono_tree.specs.TypedPrograms.{type_of_name}
 use Rattle.script_rules.specs.SourcePlaces.{place_of}
 use Rattle.static_types.specs.BodyEnds.{may_end}
-use Rattle.static_types.specs.Lines.{returned}
+use Rattle.script_rules.specs.SourceCasts.{returned}
 use Rattle.static_types.specs.Names.{Names}
 use Rattle.static_types.specs.Operators.{Sort, arithmetic, comparison, equality, sort_of, is_dyn_sum}
 use Rattle.static_types.specs.Parts.{class_called}

@@ -18,7 +18,8 @@ use Rattle.mono_tree.proofs.Order.{reflexive}
 use Rattle.mono_tree.specs.TypedPrograms.{type_of_name}
 use Rattle.static_types.specs.declared.rule.Rule.{Rule}
 use Rattle.static_types.specs.Faults.{UseFault}
-use Rattle.static_types.specs.Lines.{returned, line_parts, AssignRule, WriteRule, ReturnRule, LineRule, TypedLine, line, branches, loops, TypedGuarded, guards, TypedBranches, no_branch, next_branch, TypedElse, no_last, at_last, TypedBlock, ends, goes_on}
+use Rattle.static_types.specs.Lines.{line_parts, AssignRule, WriteRule, ReturnRule, LineRule, TypedLine, line, branches, loops, TypedGuarded, guards, TypedBranches, no_branch, next_branch, TypedElse, no_last, at_last, TypedBlock, ends, goes_on}
+use Rattle.script_rules.specs.SourceCasts.{returned}
 use Rattle.static_types.specs.LineFaults.{StartFault, LineFault, in_part, no_rule, at_use, in_branches, in_else, in_loop, GuardedFault, in_condition, at_condition, in_guarded, BranchFault, in_branch, in_later_branch, BlockFault, in_this, in_rest}
 use Rattle.static_types.specs.Members.{all_dyn}
 use Rattle.static_types.specs.Names.{Names}

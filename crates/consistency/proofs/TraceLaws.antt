@@ -3,8 +3,8 @@ use Rattle.std.proofs.Common.{◌≡◌, List, [], ◌∷◌, ◌++◌, refl, sy
 use Rattle.std.proofs.lemmas.List.{append-nil}
 use Rattle.mono_syntax.specs.declared.leaf.TyAt.{TyAt}
 use Rattle.mono_syntax.specs.Ty.{Ty}
-use Rattle.known_names.specs.computed.TypeList.{with_type}
-use Rattle.known_names.proofs.TypeListLaws.{Keeps, Grows, stays, grows_on, is_placed, grown}
+use Rattle.type_list.specs.computed.TypeList.{with_type}
+use Rattle.type_list.proofs.TypeListLaws.{Keeps, Grows, stays, grows_on, is_placed, grown}
 use Rattle.consistency.specs.declared.trace.Trace.{Trace}
 use Rattle.static_types.specs.Typing.{AllStand}
 use Rattle.consistency.specs.computed.Traces.{with_expr}

@@ -4,7 +4,7 @@ ghost use Rattle.mono_syntax.specs.ExprView.{exprs};
 ghost use Rattle.mono_syntax.specs.Stmt.{give, plain, write, start};
 ghost use Rattle.mono_syntax.specs.StmtView.{block, branches, else_block};
 ghost use Rattle.mono_tree.specs.TypedPrograms.{type_of_name};
-ghost use Rattle.static_types.specs.Lines.{returned};
+ghost use Rattle.script_rules.specs.SourceCasts.{returned};
 ghost use Rattle.known_names.specs.computed.Gives.{Gives};
 ghost use Rattle.consistency.specs.computed.Checked.{all_typed, no_parts};
 ghost use Rattle.consistency.specs.computed.Lined.{with_thread, lined, used_line, any_line, first_typed, two_typed, row_typed, return_used, assign_used, write_used, start_used, condition, line_typed, block_typed, branches_typed, else_typed};

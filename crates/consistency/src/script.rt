@@ -12,12 +12,13 @@ ghost use Rattle.consistency.specs.computed.Scripted.{end_at, function_end, body
 
 use crate::lines::{State, block_typed, line_typed, shared_type};
 use crate::trace::Trace;
-use known_names::{Known, KnownScript, Local, TypeList, is_consistent, known_in, new_type};
+use known_names::{Known, KnownScript, Local, is_consistent, known_in, new_type};
 use mono_list::{Shared, Stack};
 use mono_syntax::{FuncDef, Item, LoadFault, Reason, Scoped, Stmt, Ty, TyKind, Typed};
 use rule_choice::{may_end, refused};
 use sqlite_items::Items;
 use std::alloc::{AllocError, Global};
+use type_list::TypeList;
 
 /// The main block so far, and what the bodies of the functions to come may name.
 #[derive(Drop)]

@@ -2,10 +2,10 @@ ghost use Rattle.std.specs.Prelude.{Ok};
 ghost use Rattle.known_names.specs.computed.Gives.{Gives};
 ghost use Rattle.consistency.specs.computed.Traces.{with_expr};
 
-use known_names::{TypeList, with_type};
 use mono_list::Shared;
 use mono_syntax::{LoadFault, Ty, TyAt};
 use sqlite_items::Items;
+use type_list::{TypeList, with_type};
 
 /// The list of all types so far, and the position of the type of each expression so far, in source order.
 #[derive(Drop)]

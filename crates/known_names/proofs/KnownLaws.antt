@@ -19,7 +19,7 @@ use Rattle.script_rules.specs.BlockNames.{Target, firsts, all_targets}
 use Rattle.script_rules.specs.Definitions.{classes_of, functions_of}
 use Rattle.script_rules.specs.Scoping.{StandsAt, ClassesStand, FunctionsStand, NamesStand, IsBlockScope, BlocksStand, IsScope, class_list, function_list, main_block}
 use Rattle.script_rules.specs.Writes.{in_order, Declares, WritesAny, IsClassType, IsFunctionType}
-use Rattle.static_types.specs.Scripts.{AreNames}
+use Rattle.script_rules.specs.SourceCasts.{AreNames}
 use Rattle.known_names.specs.declared.known.KnownClass.{KnownClass}
 use Rattle.known_names.specs.declared.known.Local.{Local}
 use Rattle.known_names.specs.computed.Annotations.{known_fields}

@@ -1,5 +1,4 @@
 pub mod TypeTests
-pub mod TypeListLaws
 pub mod NamedLaws
 pub mod Steps
 pub mod Classes

@@ -2,8 +2,6 @@
 
 -- what the code knows of names is what the rules say of them
 pub mod IsKnown
--- a list of types, each once, and the position of one of them
-pub mod Placing
 -- Computed: what code computes.
 
 -- the definitions that the proofs tie to the rules

@@ -1,5 +1,4 @@
 pub mod TypeTests
-pub mod TypeList
 pub mod Annotations
 pub mod KnownNames
 pub mod Gathered

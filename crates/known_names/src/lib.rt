@@ -8,8 +8,6 @@ mod known;
 mod known_classes;
 pub mod laws;
 mod named;
-mod type_key;
-mod type_list;
 mod types;
 
 pub use annotations::written;
@@ -17,5 +15,4 @@ pub use gather::known_in;
 pub use known::{Known, KnownClass, KnownScript, Local, field_of};
 pub use known_classes::KnownClasses;
 pub use named::NamedTypes;
-pub use type_list::{Placed, TypeList, with_type};
 pub use types::{is_consistent, is_dyn, is_fully_static, is_precise, new_type};

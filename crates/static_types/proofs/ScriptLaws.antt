@@ -16,7 +16,8 @@ use Rattle.script_rules.specs.Scoping.{class_list, main_block}
 use Rattle.static_types.specs.Lines.{TypedLine, TypedBlock}
 use Rattle.static_types.specs.LineFaults.{LineFault, BlockFault}
 use Rattle.static_types.specs.Names.{Names}
-use Rattle.static_types.specs.Scripts.{AreNames, IsFunctionScope, IsMainScope, TypedFunction, FunctionFault, in_body, at_end, TypedItems, no_item, class_item, function_item, line_item, ItemFault, in_function, in_line, behind_class, behind_function, behind_line, HasTypes, IsTypeFault}
+use Rattle.static_types.specs.Scripts.{IsFunctionScope, IsMainScope, TypedFunction, FunctionFault, in_body, at_end, TypedItems, no_item, class_item, function_item, line_item, ItemFault, in_function, in_line, behind_class, behind_function, behind_line, HasTypes, IsTypeFault}
+use Rattle.script_rules.specs.SourceCasts.{AreNames}
 use Rattle.static_types.proofs.LineLaws.{SameNames, line_once, block_once, line_or_fault, block_or_fault}
 use Rattle.static_types.proofs.LineFaultLaws.{line_fault_once, block_fault_once}
 use Rattle.static_types.proofs.UseLaws.{apart_or_consistent}

@@ -1,23 +1,19 @@
 -- Typing of statements.
 use Rattle.std.specs.Prelude.{◌≡◌, ℕ, List, [], ◌∷◌, ◌++◌, Option, Some, None}
 use Rattle.mono_syntax.specs.declared.leaf.Place.{Place}
-use Rattle.mono_syntax.specs.Expr.{Expr, nil}
+use Rattle.mono_syntax.specs.Expr.{Expr}
 use Rattle.mono_syntax.specs.ExprView.{exprs_list}
 use Rattle.mono_syntax.specs.Stmt as stmt
 use Rattle.mono_syntax.specs.Stmt.{Stmt, Block, no_stmts, more_stmts, Branches, no_branches, more_branches, Else, no_else, otherwise}
 use Rattle.mono_syntax.specs.Ty.{Ty, dyn, bool}
 use Rattle.mono_tree.specs.TypedPrograms.{type_of_name}
+use Rattle.script_rules.specs.SourceCasts.{returned}
 use Rattle.static_types.specs.Members.{all_dyn}
 use Rattle.static_types.specs.Names.{Names, with_thread}
 use Rattle.static_types.specs.declared.rule.Rule.{Rule}
 use Rattle.static_types.specs.Rules.{member_of, CalleeRule}
 use Rattle.static_types.specs.Types.{AllConsistent, Types, TypeAll}
 use Rattle.mono_tree.specs.Meet.{Consistent}
-
--- a bare return is `return None` at its word
-abbrev pub returned : Place → Option Expr → Expr
-returned p None = nil p
-returned p (Some e) = e
 
 -- the expressions of a statement without blocks, in source order
 abbrev pub line_parts : Stmt → List Expr

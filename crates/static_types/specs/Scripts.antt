@@ -1,6 +1,5 @@
 -- Typing of a script whose names have their types.
 use Rattle.std.specs.Prelude.{◌≡◌, List, [], ◌∷◌, ◌++◌, Some, None, true}
-use Rattle.mono_syntax.specs.declared.cast.NamedType.{NamedType}
 use Rattle.mono_syntax.specs.declared.refusal.Reason.TheVariants.{Inconsistent}
 use Rattle.mono_syntax.specs.declared.refusal.Refusal.{Refusal}
 use Rattle.mono_syntax.specs.declared.tree.ClassDef.{ClassDef}
@@ -12,20 +11,15 @@ use Rattle.mono_syntax.specs.Stmt.{Stmt}
 use Rattle.mono_syntax.specs.StmtView.{block}
 use Rattle.mono_syntax.specs.Ty.{Ty, nil}
 use Rattle.mono_tree.specs.Meet.{AreApart, Consistent}
-use Rattle.script_rules.specs.BlockNames.{Target, firsts, all_targets}
+use Rattle.script_rules.specs.BlockNames.{firsts, all_targets}
 use Rattle.script_rules.specs.Scoping.{class_list, function_list, main_block}
+use Rattle.script_rules.specs.SourceCasts.{AreNames}
 use Rattle.script_rules.specs.Writes.{WritesAny}
 use Rattle.static_types.specs.BodyEnds.{may_end}
 use Rattle.static_types.specs.Lines.{TypedLine, TypedBlock}
 use Rattle.static_types.specs.LineFaults.{LineFault, BlockFault}
 use Rattle.static_types.specs.Names.{Names}
 use Rattle.static_types.specs.Rules.{at}
-
--- the names of targets in order, with their types
-abbrev pub AreNames : List ClassDef → List Target → List NamedType → Type 0
-AreNames cs [] [] = Unit {0}
-AreNames cs (t ∷ ts) (n ∷ ns) = (n.name ≡ t.word.text) × WritesAny cs t.ann n.ty × AreNames cs ts ns
-AreNames cs ts ns = ⊥
 
 -- what a function's body may name at its start, where the script has these classes and functions
 pub record IsFunctionScope (cs : List ClassDef) (fs : List FuncDef) (d : FuncDef) (t : Ty) (ns : Names) : Type 0 where

@@ -15,8 +15,8 @@ use Rattle.rule_choice.specs.computed.Ruled.{called_class, ruled}
 use Rattle.cast_insert.specs.declared.parts.Parts.{Parts}
 use Rattle.cast_insert.specs.declared.parts.Used.{Used}
 use Rattle.cast_insert.specs.declared.parts.Whole.{Whole}
-use Rattle.cast_insert.specs.computed.Noded.{fit_all, node}
-use Rattle.cast_insert.specs.computed.Placed.{no_slots, put_casts, put_own}
+use Rattle.cast_nodes.specs.computed.Noded.{fit_all, node}
+use Rattle.cast_nodes.specs.computed.Placed.{no_slots, put_casts, put_own}
 
 -- ---- uses
 

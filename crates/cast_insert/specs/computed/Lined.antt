@@ -10,7 +10,7 @@ use Rattle.mono_syntax.specs.Stmt as stmt
 use Rattle.mono_syntax.specs.Stmt.{Stmt, Block, no_stmts, more_stmts, Branches, no_branches, more_branches, Else, no_else, otherwise}
 use Rattle.mono_syntax.specs.Ty.{Ty, dyn, bool}
 use Rattle.mono_tree.specs.TypedPrograms.{type_of_name}
-use Rattle.static_types.specs.Lines.{returned}
+use Rattle.script_rules.specs.SourceCasts.{returned}
 use Rattle.static_types.specs.Members.{all_dyn}
 use Rattle.static_types.specs.Rules.{member_of}
 use Rattle.cast_rules.specs.declared.site.TypedSite.{TypedSite}
@@ -30,8 +30,8 @@ use Rattle.cast_insert.specs.declared.states.State.{State}
 use Rattle.cast_insert.specs.declared.parts.Parts.{Parts}
 use Rattle.cast_insert.specs.declared.parts.Used.{Used}
 use Rattle.cast_insert.specs.computed.Inserted.{allowed, used_each, no_parts, with_part, all_inserted, inserted}
-use Rattle.cast_insert.specs.computed.LineNodes.{put_line, line_node}
-use Rattle.cast_insert.specs.computed.Placed.{no_slots}
+use Rattle.cast_nodes.specs.computed.LineNodes.{put_line, line_node}
+use Rattle.cast_nodes.specs.computed.Placed.{no_slots}
 
 -- ---- uses
 

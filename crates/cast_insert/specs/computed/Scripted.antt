@@ -18,15 +18,15 @@ use Rattle.known_names.specs.declared.known.Known.{Known}
 use Rattle.known_names.specs.declared.known.KnownClass.{KnownClass}
 use Rattle.known_names.specs.declared.known.KnownScript.{KnownScript}
 use Rattle.known_names.specs.declared.known.Local.{Local}
-use Rattle.known_names.specs.computed.TypeList.{with_type}
+use Rattle.type_list.specs.computed.TypeList.{with_type}
 use Rattle.cast_insert.specs.declared.numbering.Table.{Table}
-use Rattle.cast_insert.specs.declared.slots.Slots.{Slots}
+use Rattle.cast_nodes.specs.declared.slots.Slots.{Slots}
 use Rattle.cast_insert.specs.declared.states.Body.{Body}
 use Rattle.cast_insert.specs.declared.states.Function.{Function}
 use Rattle.cast_insert.specs.declared.states.Made.{Made}
 use Rattle.cast_insert.specs.computed.Lined.{state, begun, line_inserted, block_inserted}
-use Rattle.cast_insert.specs.computed.Noded.{site_at}
-use Rattle.cast_insert.specs.computed.Placed.{no_slots, with_slot}
+use Rattle.cast_nodes.specs.computed.Noded.{site_at}
+use Rattle.cast_nodes.specs.computed.Placed.{no_slots, with_slot}
 
 -- ---- functions
 

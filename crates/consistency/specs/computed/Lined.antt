@@ -9,7 +9,7 @@ use Rattle.mono_syntax.specs.Stmt as stmt
 use Rattle.mono_syntax.specs.Stmt.{Stmt, Block, no_stmts, more_stmts, Branches, no_branches, more_branches, Else, no_else, otherwise}
 use Rattle.mono_syntax.specs.Ty.{Ty, dyn, bool}
 use Rattle.mono_tree.specs.TypedPrograms.{type_of_name}
-use Rattle.static_types.specs.Lines.{returned}
+use Rattle.script_rules.specs.SourceCasts.{returned}
 use Rattle.static_types.specs.Rules.{at, member_of}
 use Rattle.known_names.specs.declared.known.Known.{Known}
 use Rattle.known_names.specs.declared.known.Local.{Local}

@@ -1,7 +1,7 @@
 -- Computed: the types of all expressions so far, as the code keeps them.
 use Rattle.std.specs.Prelude.{[], ◌∷◌, ◌++◌}
 use Rattle.mono_syntax.specs.Ty.{Ty}
-use Rattle.known_names.specs.computed.TypeList.{with_type}
+use Rattle.type_list.specs.computed.TypeList.{with_type}
 use Rattle.consistency.specs.declared.trace.Trace.{Trace}
 
 -- one more expression, which has this type

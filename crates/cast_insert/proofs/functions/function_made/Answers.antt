@@ -11,7 +11,7 @@ use Rattle.known_names.specs.declared.known.Local.{Local}
 use Rattle.cast_insert.specs.declared.states.Body.{Body}
 use Rattle.cast_insert.specs.declared.states.Function.{Function}
 use Rattle.cast_insert.specs.computed.Lined.{state, begun, block_inserted}
-use Rattle.cast_insert.specs.computed.Placed.{no_slots, with_slot}
+use Rattle.cast_nodes.specs.computed.Placed.{no_slots, with_slot}
 use Rattle.cast_insert.specs.computed.Scripted.{end_slot, function_of, function_made}
 use Rattle.cast_insert.proofs.functions.function_made.Goals as goal
 

@@ -1,8 +1,0 @@
-use Rattle.std.proofs.Common.{◌≡◌, []}
-use Rattle.std.specs.Slice.Iter.{iter_rest}
-use Rattle.std.specs.Iterator.Adapters.{zip_first, zip_second}
-use Rattle.cast_insert.specs.computed.Noded.{with_arguments}
-use Rattle.cast_insert.proofs.nodes.arguments.Given as goal
-
-abbrev pub invariant-loop-site : goal.invariant-loop-site
-invariant-loop-site l = with_arguments l.all (iter_rest (zip_first l.site-iterator)) (iter_rest (zip_second l.site-iterator)) ≡ with_arguments [] l.sites l.values
