@@ -1,0 +1,4 @@
+-- Proofs.
+
+-- texts of lines, put together
+pub mod LineTexts

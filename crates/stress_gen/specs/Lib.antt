@@ -1,0 +1,4 @@
+-- Rules.
+
+-- the text of a stress script
+pub mod StressText
