@@ -13,3 +13,4 @@ mod states;
 mod uses;
 
 pub use script::insert;
+pub use written_types::script_types;

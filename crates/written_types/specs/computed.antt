@@ -1,0 +1,2 @@
+pub mod TypesOnto
+pub mod WrittenItems
