@@ -1,7 +1,7 @@
 pub mod Order
 pub mod Layers
 pub mod PreciseTurns
-pub mod Meets
+pub mod LowerBounds
 pub mod MeetMade
 pub mod MeetTurns
 pub mod MeetAnswers

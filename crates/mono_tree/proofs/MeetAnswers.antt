@@ -4,7 +4,7 @@ use Rattle.std.specs.Prelude.{Option, Some, None, Result, Ok, Err, IfOk, IfSome,
 use Rattle.mono_syntax.specs.Ty.{Ty}
 use Rattle.mono_tree.specs.IsType.{IsType}
 use Rattle.mono_tree.specs.Meet.{IsMeet, AreApart, meet_of}
-use Rattle.mono_tree.proofs.Meets.{meets_type}
+use Rattle.mono_tree.proofs.LowerBounds.{meets_type}
 use Rattle.mono_tree.proofs.MeetMade.{made, meet_is, none_apart}
 
 pub greatest : {E : Type 0} (r : Result (Option Ty) E) (a b : Ty) → IfOk r (λ found. found ≡ meet_of a b) → IfOk r (λ found. IfSome found (λ m. IsMeet m a b))

@@ -5,7 +5,7 @@ use Rattle.mono_syntax.specs.Ty.{Ty}
 use Rattle.mono_tree.specs.Precise.{Precise}
 use Rattle.mono_tree.specs.Meet.{IsMeet, AreApart, meet_of, meet_three}
 use Rattle.mono_tree.proofs.Order.{reflexive, transitive, antisymmetric}
-use Rattle.mono_tree.proofs.Meets.{meets_exist, meets_is}
+use Rattle.mono_tree.proofs.LowerBounds.{meets_exist, meets_is}
 use Rattle.mono_tree.proofs.MeetMade.{meet-made, meet_is, none_apart}
 
 -- ---- by what a meet is

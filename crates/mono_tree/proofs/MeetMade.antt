@@ -5,7 +5,7 @@ use Rattle.std.specs.Option.{option_map}
 use Rattle.std.proofs.lemmas.Slice.Eq.{bytes_eq-Decides}
 use Rattle.mono_syntax.specs.Ty.{Ty, dyn, int, bool, str, nil, fun, obj, Tys, no_tys, more_tys, Fields, no_fields, more_fields}
 use Rattle.mono_tree.specs.Meet.{IsMeet, AreApart, both, meet_of, meet_all, meet_fields}
-use Rattle.mono_tree.proofs.Meets.{Meets, left_dyn, right_dyn, meet_int, meet_bool, meet_str, meet_nil, meet_fun, meet_obj, AllMeet, meet_end, meet_more, FieldsMeet, meet_empty, meet_field, meets_exist, meets_is}
+use Rattle.mono_tree.proofs.LowerBounds.{Meets, left_dyn, right_dyn, meet_int, meet_bool, meet_str, meet_nil, meet_fun, meet_obj, AllMeet, meet_end, meet_more, FieldsMeet, meet_empty, meet_field, meets_exist, meets_is}
 
 -- ---- names
 

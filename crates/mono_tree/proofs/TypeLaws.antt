@@ -10,7 +10,7 @@ use Rattle.mono_tree.specs.Precision.{precise, precise_all, precise_fields}
 use Rattle.mono_tree.specs.Meet.{meet_of, meet_all, meet_fields}
 use Rattle.mono_tree.specs.Static.{IsStatic, AreStatic, HaveStatic, is_static, all_static, fields_static}
 use Rattle.mono_tree.proofs.Order.{reflexive, all_reflexive, fields_reflexive, transitive, all_transitive, fields_transitive, antisymmetric, all_antisymmetric, fields_antisymmetric}
-use Rattle.mono_tree.proofs.Meets.{all_left, all_right, fields_left, fields_right, names-meet, meets_type}
+use Rattle.mono_tree.proofs.LowerBounds.{all_left, all_right, fields_left, fields_right, names-meet, meets_type}
 use Rattle.mono_tree.proofs.MeetMade.{made, all_made, fields_made, meet_is}
 use Rattle.mono_tree.proofs.MeetLaws.{computed, meet_exists}
 use Rattle.mono_tree.proofs.PreciseTest.{precise-read, precise_all-read, precise_fields-read, precise-holds, precise_all-holds, precise_fields-holds, is_static-read, all_static-read, fields_static-read}

@@ -9,6 +9,8 @@ pub mod Precise
 pub mod Precision
 -- the meet of two types, and consistent types
 pub mod Meet
+-- types by their numbers in a list
+pub mod TypeNumbers
 -- types with no `Dyn` inside
 pub mod Static
 -- how large a type is

@@ -6,6 +6,7 @@
 mod copy;
 pub mod laws;
 mod meeting;
+mod meets;
 mod precision;
 mod size;
 mod statics;
@@ -13,6 +14,7 @@ mod text;
 
 pub use copy::{copy_type, same_type};
 pub use meeting::meet;
+pub use meets::Meets;
 pub use mono_syntax::{
     Ann, AnnForm, Arg, Block, BlockNames, Branch, CastBlock, CastBranch, CastClass, CastExpr,
     CastExprKind, CastFunction, CastScript, CastStmt, CastStmtKind, ClassDef, ClassNo, Expr,
