@@ -15,27 +15,13 @@ classes() {
     awk -v n="$1" "BEGIN { for (k = 0; k < n; k++) printf \"class C%d:\\n f: C%d\\n\", k, ($2) }"
 }
 
-# Runs the program on the script, for a wanted status and a wanted start of standard error.
-timed() {
-    local what=$1 wanted=$2 line=$3 begun ended status=0
-    begun=$(date +%s%N)
-    "$root/crates/mono/out/mono" step "$work/script.py" >"$work/out" 2>"$work/err" || status=$?
-    ended=$(date +%s%N)
-    local taken=$(((ended - begun) / 1000000))
-    printf '%s: %d.%03d s\n' "$what" $((taken / 1000)) $((taken % 1000))
-    [ "$status" -eq "$wanted" ] || fail "$what: status $status: $(head -c 300 "$work/err")"
-    [ "$(head -n 1 "$work/err")" = "$line" ] || fail "$what: $(head -c 300 "$work/err")"
-    [ "$taken" -lt "$limit" ] || over=1
-}
-
-"$root/mono" step /dev/null || fail "the program wasn't built"
-over=0
+built
 classes 20000 '(k + 1) % n' >"$work/script.py"
-timed "20,000 classes in one cycle" 1 "refused 2:5: recursive class"
+timed step "20,000 classes in one cycle" 1 "refused 2:5: recursive class"
 classes 20000 'k + 1 < n ? k + 1 : k' >"$work/script.py"
-timed "20,000 classes in a chain into one" 1 "refused 40000:5: recursive class"
+timed step "20,000 classes in a chain into one" 1 "refused 40000:5: recursive class"
 classes 20000 'n - 1' >"$work/script.py"
-timed "20,000 classes that name one" 1 "refused 40000:5: recursive class"
+timed step "20,000 classes that name one" 1 "refused 40000:5: recursive class"
 
 # 57,000 classes need names of three letters for 1 MiB. `Dyn` is taken.
 awk 'BEGIN {
@@ -48,5 +34,5 @@ awk 'BEGIN {
         n++
     }
 }' >"$work/script.py"
-timed "57,000 classes without a cycle" 0 ""
+timed step "57,000 classes without a cycle" 0 ""
 [ "$over" -eq 0 ] || fail "over $limit ms"

@@ -13,10 +13,15 @@ fail() {
     exit 1
 }
 
-# Builds the program where ./mono would, and looks for valgrind.
+# Builds the program where ./mono would.
+built() {
+    "$root/mono" step /dev/null || fail "the program wasn't built"
+}
+
+# Builds the program, and looks for valgrind.
 ready() {
     command -v valgrind >/dev/null || fail "there is no valgrind"
-    "$root/mono" step /dev/null || fail "the program wasn't built"
+    built
 }
 
 # Runs a program under callgrind, standard output to $work/out and standard error to $work/err, and ends with its status.
@@ -58,4 +63,20 @@ compare() {
         [ $((100 * counts[at])) -le $((most * counts[at - 1])) ] || over=1
     done
     [ "$over" -eq 0 ] || fail "a ratio is over $(ratio "$most" 100)"
+}
+
+over=0    # whether a time was over its limit
+
+# Runs the program on $work/script.py with this command, for a wanted status and a wanted first line of standard error, and prints
+# the seconds that it took. Where they are over $limit milliseconds, `over` is 1.
+timed() {
+    local command=$1 what=$2 wanted=$3 line=$4 begun ended status=0
+    begun=$(date +%s%N)
+    "$root/crates/mono/out/mono" "$command" "$work/script.py" >"$work/out" 2>"$work/err" || status=$?
+    ended=$(date +%s%N)
+    local taken=$(((ended - begun) / 1000000))
+    printf '%s: %d.%03d s\n' "$what" $((taken / 1000)) $((taken % 1000))
+    [ "$status" -eq "$wanted" ] || fail "$what: status $status: $(head -c 300 "$work/err")"
+    [ "$(head -n 1 "$work/err")" = "$line" ] || fail "$what: $(head -c 300 "$work/err")"
+    [ "$taken" -lt "$limit" ] || over=1
 }

@@ -4,7 +4,6 @@ use Rattle.std.specs.Prelude.{Contains, chars}
 use Rattle.std.specs.Str.{IsUtf8}
 use Rattle.std.specs.List.{All}
 use Rattle.std.proofs.lemmas.List.Elements.{recursion_from_All}
-use Rattle.mono_syntax.specs.declared.cast.CastScript.{CastScript}
 use Rattle.mono_syntax.specs.declared.tree.ClassDef.{ClassDef}
 use Rattle.mono_syntax.specs.declared.tree.FieldDef.{FieldDef}
 use Rattle.mono_syntax.specs.declared.tree.Item.{Item}
@@ -27,6 +26,7 @@ use Rattle.mono_syntax.specs.Ty.{Ty}
 use Rattle.mono_tree.specs.TypeText.{HasTextNames}
 use Rattle.cast_rules.specs.TextNames.{AreTextFields, HaveTextFields}
 use Rattle.cast_rules.proofs.TextSites.{types_are_text}
+use Rattle.load_script.specs.declared.accepted.Accepted.{Accepted}
 use Rattle.load_script.specs.Phases.{IsProgramOf}
 
 field_text : {ts : List Spelled} {f : FieldDef} → DerivesField ts f → AreSound ts → IsUtf8 f.name.text
@@ -55,7 +55,7 @@ field_names_are_text text tokens s u x d =
     whole_text (all_spelled text tokens) s d (recursion_from_All (λ t. IsSound t.what) (all_spelled text tokens) (sound_tokens text tokens u x))
 
 -- so have the types of a program's sites
-pub program_texts : (bytes : List ℕ) (p : CastScript) → IsProgramOf bytes p → (t : Ty) → Contains p.types t → HasTextNames t
+pub program_texts : (bytes : List ℕ) (p : Accepted) → IsProgramOf bytes p → (t : Ty) → Contains p.script.types t → HasTextNames t
 program_texts bytes p i t c =
     let text = i.program in
     let tokens = text.program in
@@ -63,4 +63,4 @@ program_texts bytes p i t c =
     let d = tree.scoped in
     let fields = field_names_are_text bytes text.tokens tokens.script i.is_text text.lexes tokens.tree in
     let own = subst (λ (s : Script). HaveTextFields (class_list s)) (sym (tree.scope).script) fields in
-    types_are_text d p own tree.casts t c
+    types_are_text d p.script own tree.casts t c

@@ -1,5 +1,5 @@
--- What a tree comes to, by what the next phase makes of its names.
-use Rattle.std.proofs.Common.{◌≡◌, inl, inr, Result, Ok, Err, IfOk, IfErr, sym, subst}
+-- What a tree comes to, by what the next phase makes of its names, its types and its closed types.
+use Rattle.std.proofs.Common.{◌≡◌, ◌∙◌, inl, inr, Result, Ok, Err, IfOk, IfErr, None, refl, ap, sym, subst}
 use Rattle.std.specs.Prelude.{IsOkUnless}
 use Rattle.mono_syntax.specs.declared.cast.CastScript.{CastScript}
 use Rattle.mono_syntax.specs.declared.refusal.LoadFault.{LoadFault}
@@ -11,10 +11,11 @@ use Rattle.script_rules.specs.LoadFaults.{IsFault, Refuses}
 use Rattle.script_rules.specs.ScopeFaults as scope
 use Rattle.script_rules.specs.ScopeFaults.{IsRight, IsScopeRefusal}
 use Rattle.script_rules.specs.Scoping.{IsScope}
-use Rattle.script_shape.specs.Shapes.{IsShaped}
 use Rattle.static_types.specs.Scripts.{IsTypeFault}
 use Rattle.cast_rules.specs.HasCasts.{HasCasts}
-use Rattle.load_script.specs.TreePhases.{IsTreeProgram, RefusesTree, misnamed, mistyped}
+use Rattle.meet_closure.specs.Faults.{first_fault}
+use Rattle.load_script.specs.declared.accepted.Accepted.{Accepted}
+use Rattle.load_script.specs.TreePhases.{IsClosedListOf, RefusesTypes, IsTreeProgram, RefusesTree, misnamed, mistyped, unclosed}
 
 -- what holds of a script holds of the one that its scope keeps
 pub kept : (P : Script → Type 0) (s : Script) (d : Scoped) → IsScope s d → P s → P d.script
@@ -28,30 +29,61 @@ right_only : (s : Script) (q : Refusal) → IsRight s → IsScopeRefusal s q →
 right_only s q right (scope.misnamed f) = right.names _ _ f.stands
 right_only s q right (scope.oversized z f) = right.sizes _ _ f.stands
 
--- ---- where the names are right
+abbrev pub no_program : LoadFault → Result Accepted LoadFault
+no_program f = Err f
 
-pub scoped_program : (s : Script) (d : Scoped) → IsRight s → IsScope s d → (r : Result CastScript LoadFault) → IfOk r (HasCasts d) → IfOk r (IsTreeProgram s)
-scoped_program s d right is (Ok p) h = record { right = right; scoped = d; scope = is; casts = h }
-scoped_program s d right is (Err f) h = tt
+-- ---- where the expressions have their types
 
-pub scoped_fault : (s : Script) (d : Scoped) → IsRight s → IsScope s d → (r : Result CastScript LoadFault)
-    → IfErr r (IsFault (IsTypeFault d.script)) → IfErr r (IsFault (RefusesTree s))
-scoped_fault s d right is (Ok p) h = tt
-scoped_fault s d right is (Err (Refused q)) h = mistyped right (subst (λ (x : Script). IsTypeFault x q) is.script h)
-scoped_fault s d right is (Err Memory) h = tt
+-- the accepted script is this one, and its types are closed
+abbrev IsClosed : CastScript → Accepted → Type 0
+IsClosed q p = (p.script ≡ q) × IsClosedListOf q.scoped.script p.closed.keys × (first_fault p.closed.keys ≡ None)
 
-pub scoped_refuses : (s : Script) (d : Scoped) → IsRight s → IsScope s d → (r : Result CastScript LoadFault)
-    → ((q : Refusal) → IsTypeFault d.script q → Refuses r q) → (q : Refusal) → RefusesTree s q → Refuses r q
-scoped_refuses s d right is r h q (misnamed f) = absurd (right_only s q right f)
-scoped_refuses s d right is r h q (mistyped k f) = h q (subst (λ (x : Script). IsTypeFault x q) (sym is.script) f)
+own_tree : (d : Scoped) (q : CastScript) → HasCasts d q → q.scoped.script ≡ d.script
+own_tree d q casts = ap (λ (x : Scoped). x.script) casts.scoped
 
--- ---- where they are wrong
+pub closed_program : (d : Scoped) → IsRight d.script → IsScope d.script d → (q : CastScript) → HasCasts d q → (r : Result Accepted LoadFault)
+    → IfOk r (IsClosed q) → IfOk r (IsTreeProgram d.script)
+closed_program d right is q casts (Ok p) h = record {
+  right = right;
+  scoped = d;
+  scope = is;
+  casts = subst (λ (x : CastScript). HasCasts d x) (sym h.0) casts;
+  closed = subst (λ (s : Script). IsClosedListOf s p.closed.keys) (own_tree d q casts) h.1;
+  fine = h.2;
+}
+closed_program d right is q casts (Err f) h = tt
+
+pub closed_fault : (d : Scoped) → IsRight d.script → (q : CastScript) → HasCasts d q → ((f : Refusal) → IsTypeFault d.script f → ⊥)
+    → (r : Result Accepted LoadFault) → IfErr r (IsFault (RefusesTypes q.scoped.script)) → IfErr r (IsFault (RefusesTree d.script))
+closed_fault d right q casts none (Ok p) h = tt
+closed_fault d right q casts none (Err (Refused f)) h =
+    unclosed right none (subst (λ (s : Script). RefusesTypes s f) (own_tree d q casts) h)
+closed_fault d right q casts none (Err Memory) h = tt
+
+pub closed_refuses : (d : Scoped) → IsRight d.script → (q : CastScript) → HasCasts d q → ((f : Refusal) → IsTypeFault d.script f → ⊥)
+    → (r : Result Accepted LoadFault) → ((f : Refusal) → RefusesTypes q.scoped.script f → Refuses r f)
+    → (f : Refusal) → RefusesTree d.script f → Refuses r f
+closed_refuses d right q casts none r h f (misnamed g) = absurd (right_only d.script f right g)
+closed_refuses d right q casts none r h f (mistyped k g) = absurd (none f g)
+closed_refuses d right q casts none r h f (unclosed k n g) = h f (subst (λ (s : Script). RefusesTypes s f) (sym (own_tree d q casts)) g)
+
+-- ---- where a type is at fault
+
+pub typed_fault : (s : Script) → IsRight s → (f : LoadFault) → IsFault (IsTypeFault s) f → IsFault (RefusesTree s) f
+typed_fault s right (Refused r) h = mistyped right h
+typed_fault s right Memory h = tt
+
+pub typed_refuses : (s : Script) → IsRight s → (f : LoadFault) → IsFault (IsTypeFault s) f
+    → ((q : Refusal) → IsTypeFault s q → Refuses (no_program f) q) → (q : Refusal) → RefusesTree s q → Refuses (no_program f) q
+typed_refuses s right f h refuses q (misnamed g) = absurd (right_only s q right g)
+typed_refuses s right f h refuses q (mistyped k g) = refuses q g
+typed_refuses s right (Refused r) h refuses q (unclosed k n g) = absurd (n r h)
+typed_refuses s right Memory h refuses q (unclosed k n g) = inr refl
+
+-- ---- where the names are wrong
 
 abbrev no_scope : LoadFault → Result Scoped LoadFault
 no_scope f = Err f
-
-abbrev pub no_program : LoadFault → Result CastScript LoadFault
-no_program f = Err f
 
 pub named_fault : (s : Script) (f : LoadFault) → IsFault (IsScopeRefusal s) f → IsFault (RefusesTree s) f
 named_fault s (Refused r) h = misnamed h
@@ -61,3 +93,17 @@ pub named_refuses : (s : Script) (f : LoadFault) → (IsRight s → IsOkUnless (
     → ((q : Refusal) → IsScopeRefusal s q → Refuses (no_scope f) q) → (q : Refusal) → RefusesTree s q → Refuses (no_program f) q
 named_refuses s f accepts refuses q (misnamed g) = refuses q g
 named_refuses s f accepts refuses q (mistyped k g) = inr (accepts k)
+named_refuses s f accepts refuses q (unclosed k n g) = inr (accepts k)
+
+-- ---- what is said of the scope's own script is said of the tree
+
+pub program_of : (s : Script) (d : Scoped) → IsScope s d → (r : Result Accepted LoadFault) → IfOk r (IsTreeProgram d.script) → IfOk r (IsTreeProgram s)
+program_of s d is r h = subst (λ (x : Script). IfOk r (IsTreeProgram x)) is.script h
+
+pub fault_of : (s : Script) (d : Scoped) → IsScope s d → (r : Result Accepted LoadFault)
+    → IfErr r (IsFault (RefusesTree d.script)) → IfErr r (IsFault (RefusesTree s))
+fault_of s d is r h = subst (λ (x : Script). IfErr r (IsFault (RefusesTree x))) is.script h
+
+pub refuses_of : (s : Script) (d : Scoped) → IsScope s d → (r : Result Accepted LoadFault)
+    → ((q : Refusal) → RefusesTree d.script q → Refuses r q) → (q : Refusal) → RefusesTree s q → Refuses r q
+refuses_of s d is r h q f = h q (subst (λ (x : Script). RefusesTree x q) (sym is.script) f)

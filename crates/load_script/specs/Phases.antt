@@ -1,20 +1,20 @@
--- From the bytes of a script to the script with its casts, phase by phase: bytes are decoded, text is cut into tokens, and
--- tokens are read as a tree, which comes to its casts as TreePhases says. The first phase that refuses ends it.
+-- From the bytes of a script to its program, phase by phase: bytes are decoded, text is cut into tokens, and tokens are read as a
+-- tree, which comes to its program as TreePhases says. The first phase that refuses ends it.
 use Rattle.std.specs.Prelude.{ℕ, ◌<◌, ◌≤◌, List, length, chars}
 use Rattle.std.specs.Str.{IsUtf8}
 use Rattle.mono_syntax.specs.Limits.{most_bytes}
-use Rattle.mono_syntax.specs.declared.cast.CastScript.{CastScript}
 use Rattle.mono_syntax.specs.declared.refusal.Reason.TheVariants.{TooLong}
 use Rattle.mono_syntax.specs.declared.refusal.Refusal.{Refusal}
 use Rattle.mono_syntax.specs.declared.tree.Script.{Script}
 use Rattle.py_lexer.specs.declared.token.Token.{Token}
 use Rattle.py_lexer.specs.Lexes.{Lexes, FirstLexFault, RefusesBytes}
 use Rattle.parse_script.specs.Script.{DerivesScript, IsRefusedAt}
+use Rattle.load_script.specs.declared.accepted.Accepted.{Accepted}
 use Rattle.load_script.specs.TreePhases.{IsTreeProgram, RefusesTree}
 
 -- ---- what tokens come to
 
-pub record IsTokensProgram (text : List ℕ) (tokens : List Token) (p : CastScript) : Type 0 where
+pub record IsTokensProgram (text : List ℕ) (tokens : List Token) (p : Accepted) : Type 0 where
   pub script : Script
   pub tree : DerivesScript text tokens script
   pub program : IsTreeProgram script p
@@ -26,7 +26,7 @@ pub data RefusesTokens (text : List ℕ) (tokens : List Token) : Refusal → Typ
 
 -- ---- what a text comes to
 
-pub record IsTextProgram (text : List ℕ) (p : CastScript) : Type 0 where
+pub record IsTextProgram (text : List ℕ) (p : Accepted) : Type 0 where
   pub tokens : List Token
   pub lexes : Lexes (chars text) tokens
   pub program : IsTokensProgram text tokens p
@@ -41,8 +41,8 @@ pub data RefusesText (text : List ℕ) : Refusal → Type 0 where
 abbrev pub too_long : Refusal
 too_long = record { place = record { line = 1; column = 1 }; reason = TooLong }
 
--- p is the script of these bytes with its casts
-pub record IsProgramOf (bytes : List ℕ) (p : CastScript) : Type 0 where
+-- p is the accepted script of these bytes
+pub record IsProgramOf (bytes : List ℕ) (p : Accepted) : Type 0 where
   pub fits : length bytes ≤ most_bytes
   pub is_text : IsUtf8 bytes
   pub program : IsTextProgram bytes p

@@ -1,23 +1,54 @@
--- From the tree of a script to the script with its casts: its names get their types, its expressions get theirs, and it gets its casts.
+-- From the tree of a script to its program: its names get their types, its expressions get theirs, it gets its casts, and its types are closed.
 -- The first phase that refuses ends it.
-use Rattle.mono_syntax.specs.declared.cast.CastScript.{CastScript}
+use Rattle.std.specs.Prelude.{◌≡◌, List, Some, None}
+use Rattle.mono_syntax.specs.Ty.{Ty}
+use Rattle.mono_syntax.specs.declared.leaf.Place.{Place}
 use Rattle.mono_syntax.specs.declared.refusal.Refusal.{Refusal}
 use Rattle.mono_syntax.specs.declared.script.Scoped.{Scoped}
 use Rattle.mono_syntax.specs.declared.tree.Script.{Script}
+use Rattle.mono_tree.specs.ClosedList.{IsClosedList}
 use Rattle.script_rules.specs.ScopeFaults.{IsRight, IsScopeRefusal}
 use Rattle.script_rules.specs.Scoping.{IsScope}
 use Rattle.static_types.specs.Scripts.{IsTypeFault}
 use Rattle.cast_rules.specs.HasCasts.{HasCasts}
+use Rattle.written_types.specs.ScriptTypes.{AreScriptTypes}
+use Rattle.meet_closure.specs.Faults.{first_fault}
+use Rattle.load_script.specs.declared.accepted.Accepted.{Accepted}
 
--- p is the script of this tree with its casts: the tree has no fault of names or sizes, and its expressions have their types
-pub record IsTreeProgram (s : Script) (p : CastScript) : Type 0 where
+-- ---- closed types
+
+-- l is the closed list of the types that the script writes
+pub record IsClosedListOf (s : Script) (l : List Ty) : Type 0 where
+  pub written : List Ty
+  pub are : AreScriptTypes s written
+  pub closed : IsClosedList written l
+
+-- where a script as a whole is refused
+abbrev pub beginning : Place
+beginning = record { line = 1; column = 1 }
+
+-- the script is refused for the first member of that list that is too large or one too many
+pub record RefusesTypes (s : Script) (r : Refusal) : Type 0 where
+  pub list : List Ty
+  pub closed : IsClosedListOf s list
+  pub fault : first_fault list ≡ Some r.reason
+  pub place : r.place ≡ beginning
+
+-- ---- the tree's program
+
+-- The accepted script of this tree: the tree has no fault of names or sizes, its expressions have their types, and no member of the closed list
+-- of its types is at fault.
+pub record IsTreeProgram (s : Script) (p : Accepted) : Type 0 where
   pub right : IsRight s
   pub scoped : Scoped
   pub scope : IsScope s scoped
-  pub casts : HasCasts scoped p
+  pub casts : HasCasts scoped p.script
+  pub closed : IsClosedListOf s p.closed.keys
+  pub fine : first_fault p.closed.keys ≡ None
 
--- the tree is refused so: for its first fault of names, and where there is none of size; else for its first fault of typing. To get
--- its casts no script is refused.
+-- The tree is refused so: for its first fault of names, and where there is none of size; else for its first fault of typing; else for its closed
+-- types. To get its casts no script is refused.
 pub data RefusesTree (s : Script) : Refusal → Type 0 where
   misnamed : {r : Refusal} → IsScopeRefusal s r → RefusesTree s r
   mistyped : {r : Refusal} → IsRight s → IsTypeFault s r → RefusesTree s r
+  unclosed : {r : Refusal} → IsRight s → ((q : Refusal) → IsTypeFault s q → ⊥) → RefusesTypes s r → RefusesTree s r

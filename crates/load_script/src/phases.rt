@@ -1,4 +1,4 @@
-ghost use Rattle.std.specs.Prelude.{◌≡◌, ◌≤◌, length, chars, IfOk, IfErr};
+ghost use Rattle.std.specs.Prelude.{◌≡◌, ◌≤◌, length, chars, IfOk, IfErr, None};
 ghost use Rattle.std.specs.Str.{IsUtf8};
 ghost use Rattle.mono_syntax.specs.Limits.{most_bytes};
 ghost use Rattle.mono_syntax.specs.declared.refusal.Refusal.{Refusal};
@@ -10,11 +10,14 @@ ghost use Rattle.script_rules.specs.WellTyped.{IsWellTypedProgram};
 ghost use Rattle.script_shape.specs.Shapes.{IsShaped};
 ghost use Rattle.static_types.specs.Scripts.{IsTypeFault};
 ghost use Rattle.cast_rules.specs.HasCasts.{HasCasts};
-ghost use Rattle.load_script.specs.TreePhases.{IsTreeProgram, RefusesTree};
+ghost use Rattle.meet_closure.specs.Faults.{first_fault};
+ghost use Rattle.load_script.specs.TreePhases.{IsClosedListOf, RefusesTypes, IsTreeProgram, RefusesTree};
 ghost use Rattle.load_script.specs.Phases.{IsTokensProgram, RefusesTokens, IsTextProgram, RefusesText, IsProgramOf, IsFirstRefusal};
 
-use cast_insert::insert;
+use crate::accepted::Accepted;
+use cast_insert::{insert, script_types};
 use consistency::check;
+use meet_closure::close;
 use mono_list::Shared;
 use mono_syntax::{CastScript, LoadFault, Scoped, Script};
 use name_scope::scope;
@@ -23,11 +26,12 @@ use py_lexer::{Token, decode, lex};
 use std::alloc::Global;
 
 /// A script whose names are right: its expressions get their types, and then it gets its casts.
-fn load_scoped(alloc: Global, scoped: Scoped) -> Result<CastScript, LoadFault>
+fn load_typed(alloc: Global, scoped: Scoped) -> Result<CastScript, LoadFault>
     requires shape { IsShaped scoped.script }
     requires right { IsRight scoped.script }
     requires scope { IsScope scoped.script scoped }
     ensures accepted { IfOk result (HasCasts scoped) }
+    ensures typed { IfOk result (λ p. (r : Refusal) → IsTypeFault scoped.script r → ⊥) }
     ensures refused { IfErr result (IsFault (IsTypeFault scoped.script)) }
     ensures refuses { (r : Refusal) → IsTypeFault scoped.script r → Refuses result r }
     ensures well_typed { IfOk result IsWellTypedProgram }
@@ -38,13 +42,41 @@ fn load_scoped(alloc: Global, scoped: Scoped) -> Result<CastScript, LoadFault>
     Ok(script)
 }
 
+/// A script with its casts: its types are closed.
+fn close_types(alloc: Global, script: CastScript) -> Result<Accepted, LoadFault>
+    requires { IsWellTypedProgram script }
+    ensures accepted { IfOk result (λ p. (p.script ≡ script) × IsClosedListOf script.scoped.script p.closed.keys × (first_fault p.closed.keys ≡ None)) }
+    ensures refused { IfErr result (IsFault (RefusesTypes script.scoped.script)) }
+    ensures refuses { (r : Refusal) → RefusesTypes script.scoped.script r → Refuses result r }
+{
+    let written = script_types(alloc, &script)?;
+    let closed = close(alloc, written.as_slice())?;
+    Ok(Accepted { script, closed })
+}
+
+/// A script whose names are right, up to its closed types.
+fn load_scoped(alloc: Global, scoped: Scoped) -> Result<Accepted, LoadFault>
+    requires shape { IsShaped scoped.script }
+    requires right { IsRight scoped.script }
+    requires scope { IsScope scoped.script scoped }
+    ensures accepted { IfOk result (IsTreeProgram scoped.script) }
+    ensures refused { IfErr result (IsFault (RefusesTree scoped.script)) }
+    ensures refuses { (r : Refusal) → RefusesTree scoped.script r → Refuses result r }
+    ensures well_typed { IfOk result (λ p. IsWellTypedProgram p.script) }
+{
+    match load_typed(alloc, scoped) {
+        Ok(script) => close_types(alloc, script),
+        Err(fault) => Err(fault),
+    }
+}
+
 /// A tree: its names get their types first.
-fn load_tree(alloc: Global, script: &Script) -> Result<CastScript, LoadFault>
+fn load_tree(alloc: Global, script: &Script) -> Result<Accepted, LoadFault>
     requires { IsShaped script.now }
     ensures accepted { IfOk result (IsTreeProgram script.now) }
     ensures refused { IfErr result (IsFault (RefusesTree script.now)) }
     ensures refuses { (r : Refusal) → RefusesTree script.now r → Refuses result r }
-    ensures well_typed { IfOk result IsWellTypedProgram }
+    ensures well_typed { IfOk result (λ p. IsWellTypedProgram p.script) }
 {
     match scope(alloc, script) {
         Ok(scoped) => load_scoped(alloc, scoped),
@@ -52,13 +84,13 @@ fn load_tree(alloc: Global, script: &Script) -> Result<CastScript, LoadFault>
     }
 }
 
-fn load_tokens(alloc: Global, tokens: &[Token], text: &str) -> Result<CastScript, LoadFault>
+fn load_tokens(alloc: Global, tokens: &[Token], text: &str) -> Result<Accepted, LoadFault>
     requires length { length text.now ≤ most_bytes }
     requires lexed { Lexes (chars text.now) tokens.now }
     ensures accepted { IfOk result (IsTokensProgram text.now tokens.now) }
     ensures refused { IfErr result (IsFault (RefusesTokens text.now tokens.now)) }
     ensures refuses { (r : Refusal) → RefusesTokens text.now tokens.now r → Refuses result r }
-    ensures well_typed { IfOk result IsWellTypedProgram }
+    ensures well_typed { IfOk result (λ p. IsWellTypedProgram p.script) }
 {
     match parse(alloc, tokens, text) {
         Ok(script) => load_tree(alloc, &script),
@@ -66,12 +98,12 @@ fn load_tokens(alloc: Global, tokens: &[Token], text: &str) -> Result<CastScript
     }
 }
 
-fn load_text(alloc: Global, text: &str) -> Result<CastScript, LoadFault>
+fn load_text(alloc: Global, text: &str) -> Result<Accepted, LoadFault>
     requires { length text.now ≤ most_bytes }
     ensures accepted { IfOk result (IsTextProgram text.now) }
     ensures refused { IfErr result (IsFault (RefusesText text.now)) }
     ensures refuses { (r : Refusal) → RefusesText text.now r → Refuses result r }
-    ensures well_typed { IfOk result IsWellTypedProgram }
+    ensures well_typed { IfOk result (λ p. IsWellTypedProgram p.script) }
 {
     match lex(alloc, text) {
         Ok(tokens) => load_tokens(alloc, tokens.as_slice(), text),
@@ -79,9 +111,9 @@ fn load_text(alloc: Global, text: &str) -> Result<CastScript, LoadFault>
     }
 }
 
-/// The script of some bytes with its casts, or the first refusal: the bytes are decoded, cut into tokens and read as a tree,
-/// and then its names and sizes and its types are looked at.
-pub fn load(alloc: Global, bytes: &[u8]) -> Result<CastScript, LoadFault>
+/// The accepted script of some bytes, or the first refusal: the bytes are decoded, cut into tokens and read as a tree; its names and sizes
+/// and its types are looked at; it gets its casts, and its types are closed.
+pub fn load(alloc: Global, bytes: &[u8]) -> Result<Accepted, LoadFault>
     requires { length bytes.now ≤ most_bytes }
     ensures accepted { IfOk result (IsProgramOf bytes.now) }
     ensures refused { IfErr result (IsFault (IsFirstRefusal bytes.now)) }
@@ -89,7 +121,7 @@ pub fn load(alloc: Global, bytes: &[u8]) -> Result<CastScript, LoadFault>
     // What the rules refuse is refused so, unless there is no memory.
     ensures refuses { (r : Refusal) → IsFirstRefusal bytes.now r → Refuses result r }
 
-    ensures well_typed { IfOk result IsWellTypedProgram }
+    ensures well_typed { IfOk result (λ p. IsWellTypedProgram p.script) }
 {
     match decode(bytes) {
         Ok(text) => load_text(alloc, text),

@@ -6,12 +6,12 @@ use Rattle.mono_io.specs.Faults.{Rose, IsTold, IsTooLong}
 use Rattle.cast_machine.specs.declared.data.End.{End}
 use Rattle.cast_machine.specs.declared.data.End.TheVariants as ends
 use Rattle.mono_cli.specs.Ends.{status_of_end}
-use Rattle.mono_cli.specs.Answer.{Answer, refused, listed, passed, casts_listed, usage, unfetched}
+use Rattle.mono_cli.specs.Answer.{Answer, refused, listed, passed, casts_listed, types_listed, usage, unfetched}
 use Rattle.load_script.specs.Phases.{IsFirstRefusal, too_long}
 use Rattle.mono_cli.specs.Scripts.{AnswersText, IsAccepted, IsRefusedAnswer, IsProgramAnswer}
 use Rattle.mono_cli.specs.declared.words.Verb.{Verb}
 use Rattle.mono_cli.specs.declared.words.Verb.TheVariants as verb
-use Rattle.mono_syntax.specs.declared.cast.CastScript.{CastScript}
+use Rattle.load_script.specs.declared.accepted.Accepted.{Accepted}
 use Rattle.mono_cli.specs.Commands.{AnswersTold, IsAnswer}
 use Rattle.mono_cli.specs.Showing.{Shows}
 use Rattle.mono_cli.proofs.Shown.{shows_also, shows_whole}
@@ -44,10 +44,11 @@ ended_most ends.DepthLimit = omega arith
 status_along : (a b : Answer) → a ≡ b → b.status ≤ 6 → a.status ≤ 6
 status_along a b e l = subst (λ (x : Answer). x.status ≤ 6) (sym e) l
 
-accepted_most : (v : Verb) (p : CastScript) (a : Answer) → IsAccepted v p a → a.status ≤ 6
+accepted_most : (v : Verb) (p : Accepted) (a : Answer) → IsAccepted v p a → a.status ≤ 6
 accepted_most verb.Check p a h = status_along a passed h (omega arith)
-accepted_most verb.Show p a h = status_along a (listed p.scoped.script) h.says (omega arith)
-accepted_most verb.Casts p a h = status_along a (casts_listed p h.rows) h.says (omega arith)
+accepted_most verb.Show p a h = status_along a (listed p.script.scoped.script) h.says (omega arith)
+accepted_most verb.Casts p a h = status_along a (casts_listed p.script h.rows) h.says (omega arith)
+accepted_most verb.Types p a h = status_along a (types_listed p.closed.keys) h (omega arith)
 accepted_most verb.Step p a h = status_along a _ h.says (ended_most h.end)
 
 text_most : (v : Verb) (text : List ℕ) (a : Answer) → IsRefusedAnswer text a ⊎ IsProgramAnswer v text a → a.status ≤ 6
@@ -101,10 +102,11 @@ ended_other ends.PrintFull h = absurd (omega (arith, h))
 ended_other ends.ThreadLimit h = absurd (omega (arith, h))
 ended_other ends.DepthLimit h = absurd (omega (arith, h))
 
-accepted_other : (v : Verb) (p : CastScript) (a : Answer) → IsAccepted v p a → a.status ≡ 1 → ⊥
+accepted_other : (v : Verb) (p : Accepted) (a : Answer) → IsAccepted v p a → a.status ≡ 1 → ⊥
 accepted_other verb.Check p a h one = let zero_is : 0 ≡ 1 = ap (λ (x : Answer). x.status) (sym h) ∙ one in absurd (omega (arith, zero_is))
 accepted_other verb.Show p a h one = let zero_is : 0 ≡ 1 = ap (λ (x : Answer). x.status) (sym h.says) ∙ one in absurd (omega (arith, zero_is))
 accepted_other verb.Casts p a h one = let zero_is : 0 ≡ 1 = ap (λ (x : Answer). x.status) (sym h.says) ∙ one in absurd (omega (arith, zero_is))
+accepted_other verb.Types p a h one = let zero_is : 0 ≡ 1 = ap (λ (x : Answer). x.status) (sym h) ∙ one in absurd (omega (arith, zero_is))
 accepted_other verb.Step p a h one = ended_other h.end (ap (λ (x : Answer). x.status) (sym h.says) ∙ one)
 
 text_refused : (v : Verb) (text : List ℕ) (a : Answer) → IsRefusedAnswer text a ⊎ IsProgramAnswer v text a → a.status ≡ 1 → (r : Refusal) × IsFirstRefusal text r

@@ -1,16 +1,16 @@
 -- The tree of a program is one that the grammar gives for its bytes.
 use Rattle.std.proofs.Common.{◌≡◌, ◌∙◌, List, ℕ, ap, sym, subst}
-use Rattle.mono_syntax.specs.declared.cast.CastScript.{CastScript}
+use Rattle.load_script.specs.declared.accepted.Accepted.{Accepted}
 use Rattle.mono_syntax.specs.declared.tree.Script.{Script}
 use Rattle.load_script.specs.Phases.{IsProgramOf}
 use Rattle.tree_print.specs.ReadsBack.{HasTree, IsGrammatical}
 
-pub program_grammatical : (bytes : List ℕ) (p : CastScript) → IsProgramOf bytes p → IsGrammatical p.scoped.script
+pub program_grammatical : (bytes : List ℕ) (p : Accepted) → IsProgramOf bytes p → IsGrammatical p.script.scoped.script
 program_grammatical bytes p i =
     let text = i.program in
     let tokens = text.program in
     let tree = tokens.program in
-    let same : p.scoped.script ≡ tokens.script = ap (λ d. d.script) tree.casts.scoped ∙ tree.scope.script in
+    let same : p.script.scoped.script ≡ tokens.script = ap (λ d. d.script) tree.casts.scoped ∙ tree.scope.script in
     let Has : Script → Type 0 = λ s. HasTree bytes s in
     record {
       source = bytes;

@@ -1,7 +1,7 @@
 -- The answer to a text.
 use Rattle.std.proofs.Common.{ℕ, ◌≡◌, ◌<◌, List, length, ◌⊎◌, inl, inr, arith, refl, ap, ◌∙◌}
 use Rattle.mono_syntax.specs.Limits.{most_bytes}
-use Rattle.mono_syntax.specs.declared.cast.CastScript.{CastScript}
+use Rattle.load_script.specs.declared.accepted.Accepted.{Accepted}
 use Rattle.mono_syntax.specs.declared.refusal.LoadFault.TheVariants.{Refused, Memory}
 use Rattle.mono_syntax.specs.declared.refusal.Refusal.{Refusal}
 use Rattle.mono_cli.specs.Answer.{Answer, refused}
@@ -9,7 +9,7 @@ use Rattle.load_script.specs.Phases.{IsFirstRefusal, long, undecoded, in_text, t
 use Rattle.mono_cli.specs.Scripts.{IsAccepted, AnswersText}
 use Rattle.mono_cli.specs.declared.words.Verb.{Verb}
 
-pub program_answers : (v : Verb) (text : List ℕ) (p : CastScript) → IsProgramOf text p → ((r : Refusal) → IsFirstRefusal text r → ⊥) →
+pub program_answers : (v : Verb) (text : List ℕ) (p : Accepted) → IsProgramOf text p → ((r : Refusal) → IsFirstRefusal text r → ⊥) →
     (a : Answer) → IsAccepted v p a → AnswersText v text a
 program_answers v text p i n a h = record { refuses = λ r f. absurd (n r f); answers = inr (record { program = p; is = i; accepted = h }) }
 

@@ -1,11 +1,13 @@
 -- The answers of a command.
-use Rattle.std.specs.Prelude.{ℕ, List, [], codes}
+use Rattle.std.specs.Prelude.{ℕ, ◌+◌, List, [], ◌∷◌, ◌++◌, codes, decimal}
 use Rattle.mono_syntax.specs.declared.cast.CastScript.{CastScript}
 use Rattle.cast_lines.specs.declared.rows.Row.{Row}
 use Rattle.cast_lines.specs.CastLines.{rows_text}
 use Rattle.mono_syntax.specs.declared.refusal.Refusal.{Refusal}
 use Rattle.mono_syntax.specs.declared.tree.Script.{Script}
 use Rattle.mono_syntax.specs.declared.value.Val.{Val}
+use Rattle.mono_syntax.specs.Ty.{Ty}
+use Rattle.mono_tree.specs.TypeText.{text_of}
 use Rattle.token_lines.specs.Lines.{lines_text}
 use Rattle.tree_print.specs.ScriptLines.{script_lines}
 use Rattle.cast_machine.specs.declared.data.End.{End}
@@ -45,3 +47,12 @@ passed = record { status = 0; out = codes "ok\n"; err = [] }
 -- the answer that lists the casts of a script, in this order
 abbrev pub casts_listed : CastScript → List Row → Answer
 casts_listed p rows = record { status = 0; out = rows_text p rows; err = [] }
+
+-- a line for each type: its number, which goes on from n, a space, and its text
+abbrev pub types_text : ℕ → List Ty → List ℕ
+types_text n [] = []
+types_text n (t ∷ ts) = decimal n ++ (32 ∷ (text_of t ++ (10 ∷ types_text (n + 1) ts)))
+
+-- the answer that lists types
+abbrev pub types_listed : List Ty → Answer
+types_listed ts = record { status = 0; out = types_text 0 ts; err = [] }

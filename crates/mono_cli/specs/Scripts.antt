@@ -1,8 +1,9 @@
--- What a script's bytes come to: their first refusal, or what a command makes of their program: a run, which is safe, its text, or
--- its casts.
+-- What a script's bytes come to: their first refusal, or what a command makes of their program: a run, which is safe, its text, its
+-- casts, or its types.
 use Rattle.std.specs.Prelude.{◌≡◌, ◌⊎◌, ℕ, true, List, Some, is_some}
 use Rattle.mono_syntax.specs.declared.cast.CastScript.{CastScript}
 use Rattle.mono_syntax.specs.declared.refusal.Refusal.{Refusal}
+use Rattle.load_script.specs.declared.accepted.Accepted.{Accepted}
 use Rattle.load_script.specs.Phases.{IsFirstRefusal, IsProgramOf}
 use Rattle.cast_machine.specs.declared.data.End.{End}
 use Rattle.cast_machine.specs.declared.data.Settings.{Settings}
@@ -14,7 +15,7 @@ use Rattle.mono_cli.specs.declared.words.Verb.{Verb}
 use Rattle.mono_cli.specs.declared.words.Verb.TheVariants as verb
 use Rattle.cast_lines.specs.declared.rows.Row.{Row}
 use Rattle.cast_lines.specs.CastLines.{AreRows}
-use Rattle.mono_cli.specs.Answer.{Answer, refused, ended, listed, passed, casts_listed}
+use Rattle.mono_cli.specs.Answer.{Answer, refused, ended, listed, passed, casts_listed, types_listed}
 
 -- the limits of a run and its seed where the command names none
 abbrev pub defaults : Settings
@@ -57,16 +58,17 @@ pub record IsCastList (p : CastScript) (a : Answer) : Type 0 where
   pub are : AreRows p.sites rows
   pub says : a ≡ casts_listed p rows
 
--- the answer of a command to the program of an accepted script
-abbrev pub IsAccepted : Verb → CastScript → Answer → Type 0
+-- the answer of a command to an accepted script
+abbrev pub IsAccepted : Verb → Accepted → Answer → Type 0
 IsAccepted verb.Check p a = a ≡ passed
-IsAccepted verb.Show p a = IsListing p.scoped.script a
-IsAccepted verb.Casts p a = IsCastList p a
-IsAccepted verb.Step p a = IsRunAnswer p a
+IsAccepted verb.Show p a = IsListing p.script.scoped.script a
+IsAccepted verb.Casts p a = IsCastList p.script a
+IsAccepted verb.Types p a = a ≡ types_listed p.closed.keys
+IsAccepted verb.Step p a = IsRunAnswer p.script a
 
 -- the answer is that of the command to these bytes' program
 pub record IsProgramAnswer (v : Verb) (text : List ℕ) (a : Answer) : Type 0 where
-  pub program : CastScript
+  pub program : Accepted
   pub is : IsProgramOf text program
   pub accepted : IsAccepted v program a
 

@@ -15,8 +15,9 @@ verb_of w =
     if bytes_eq w (codes "check") then Some verb.Check
     else (if bytes_eq w (codes "show") then Some verb.Show
     else (if bytes_eq w (codes "casts") then Some verb.Casts
+    else (if bytes_eq w (codes "types") then Some verb.Types
     else (if bytes_eq w (codes "step") then Some verb.Step
-    else None)))
+    else None))))
 
 abbrev pub file_when : Option Verb → List ℕ → Option (List ℕ)
 file_when None file = None

@@ -1,16 +1,16 @@
-ghost use Rattle.std.specs.Prelude.{◌≡◌, ◌<◌, ◌≤◌, ℕ, List, Option, [], length, Contains};
+ghost use Rattle.std.specs.Prelude.{◌≡◌, ◌<◌, ◌≤◌, ◌∷◌, ◌++◌, ℕ, List, Option, [], length, Contains, IfOk};
 ghost use Rattle.mono_io.specs.Puts.{Puts};
 ghost use Rattle.tree_print.specs.ReadsBack.{IsGrammatical};
 ghost use Rattle.mono_syntax.specs.Ty.{Ty};
 ghost use Rattle.mono_tree.specs.TypeText.{HasTextNames};
-ghost use Rattle.mono_cli.specs.Answer.{passed};
+ghost use Rattle.mono_cli.specs.Answer.{passed, types_text, types_listed};
 ghost use Rattle.mono_cli.specs.Scripts.{IsCastList, IsListing};
 ghost use Rattle.mono_cli.specs.Showing.{IsShown, Shows};
 
 use crate::render::put_piece;
 use mono_io::{Sink, SinkFault};
-use mono_tree::{CastScript, Script};
-use std::alloc::Global;
+use mono_tree::{CastScript, Script, Ty, type_bytes};
+use std::alloc::{AllocError, Global};
 use tree_print::{print_casts, print_script};
 
 /// The position behind the line that begins here.
@@ -87,4 +87,44 @@ pub fn show_listing<K: Sink>(alloc: Global, script: &Script, out: &mut K) -> u8
         return 8;
     };
     show_lines(text.as_bytes(), out)
+}
+
+/// The text with one more line: a type's number, a space, and its text.
+fn with_type_line(
+    alloc: Global,
+    text: Vec<u8>,
+    number: usize,
+    ty: &Ty,
+) -> Result<Vec<u8>, AllocError>
+    ensures { IfOk result (λ more. more.items ≡ text.items ++ types_text number (ty.now ∷ [])) }
+{
+    let mut more = text;
+    let head = format!(in alloc; "{number} ")?;
+    let bytes = type_bytes(alloc, ty)?;
+    more.extend_from_slice(head.as_bytes())?;
+    more.extend_from_slice(bytes.as_slice())?;
+    more.push(b'\n')?;
+    Ok(more)
+}
+
+/// The types with their numbers, a line each.
+fn types_text(alloc: Global, types: &[Ty]) -> Result<Vec<u8>, AllocError>
+    ensures { IfOk result (λ text. text.items ≡ types_text 0 types.now) }
+{
+    let mut text = Vec::new(alloc);
+    for (number, ty) in types.iter().enumerate() {
+        text = with_type_line(alloc, text, number, ty)?;
+    }
+    Ok(text)
+}
+
+/// Shows the closed types of a script.
+pub fn show_types<K: Sink>(alloc: Global, types: &[Ty], out: &mut K) -> u8
+    ensures { (x : Option (List ℕ)) (e : ℕ) → Shows (λ a. a ≡ types_listed types.now)
+        (K.told out.old) (K.told out.new) (K.faults out.old) (K.faults out.new) x x e e result }
+{
+    let Ok(text) = types_text(alloc, types) else {
+        return 8;
+    };
+    show_lines(text.as_slice(), out)
 }

@@ -8,12 +8,12 @@ ghost use Rattle.tree_print.specs.ReadsBack.{IsGrammatical};
 ghost use Rattle.mono_syntax.specs.Limits.{most_bytes};
 
 use crate::ends::{end_text, status_of_end};
-use crate::listing::{show_casts, show_listing, show_passed};
+use crate::listing::{show_casts, show_listing, show_passed, show_types};
 use crate::refusals::show_refusal;
 use crate::show::show_run;
 use crate::words::Verb;
 use cast_calculus::{Config, Settings};
-use load_script::load;
+use load_script::{Accepted, load};
 use mono_io::Sink;
 use mono_tree::{CastScript, LoadFault};
 use std::alloc::{AllocError, Global};
@@ -65,20 +65,22 @@ fn show_script<K: Sink, E: Sink>(alloc: Global, script: &CastScript, out: &mut K
 fn show_accepted<K: Sink, E: Sink>(
     alloc: Global,
     verb: Verb,
-    script: &CastScript,
+    accepted: &Accepted,
     out: &mut K,
     err: &mut E,
 ) -> u8
-    requires typed { IsTypedProgram script.now }
-    requires tree { IsGrammatical script.now.scoped.script }
-    requires texts { (t : Ty) → Contains script.now.types t → HasTextNames t }
-    ensures { Shows (λ a. IsAccepted verb script.now a) (K.told out.old) (K.told out.new) (K.faults out.old) (K.faults out.new)
+    requires typed { IsTypedProgram accepted.now.script }
+    requires tree { IsGrammatical accepted.now.script.scoped.script }
+    requires texts { (t : Ty) → Contains accepted.now.script.types t → HasTextNames t }
+    ensures { Shows (λ a. IsAccepted verb accepted.now a) (K.told out.old) (K.told out.new) (K.faults out.old) (K.faults out.new)
         (E.told err.old) (E.told err.new) (E.faults err.old) (E.faults err.new) result }
 {
+    let script = &accepted.script;
     match verb {
         Verb::Check => show_passed(out),
         Verb::Show => show_listing(alloc, script.scoped.get().script.get(), out),
         Verb::Casts => show_casts(alloc, script, out),
+        Verb::Types => show_types(alloc, accepted.closed.as_slice(), out),
         Verb::Step => show_script(alloc, script, out, err),
     }
 }
@@ -96,7 +98,7 @@ pub fn show_text<K: Sink, E: Sink>(
         (E.told err.old) (E.told err.new) (E.faults err.old) (E.faults err.new) result }
 {
     match load(alloc, text) {
-        Ok(script) => show_accepted(alloc, verb, &script, out, err),
+        Ok(accepted) => show_accepted(alloc, verb, &accepted, out, err),
         Err(LoadFault::Refused(refusal)) => show_refusal(alloc, refusal, out, err),
         Err(LoadFault::Memory) => 8,
     }

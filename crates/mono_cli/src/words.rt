@@ -11,6 +11,8 @@ pub enum Verb {
     Show,
     /// Lists its casts.
     Casts,
+    /// Lists its closed types.
+    Types,
     /// Runs it in the order of a seed.
     Step,
 }
@@ -22,6 +24,7 @@ fn verb_of(word: &str) -> Option<Verb>
         "check" => Some(Verb::Check),
         "show" => Some(Verb::Show),
         "casts" => Some(Verb::Casts),
+        "types" => Some(Verb::Types),
         "step" => Some(Verb::Step),
         _ => None,
     }

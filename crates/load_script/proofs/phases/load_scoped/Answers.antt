@@ -1,15 +1,20 @@
-use Rattle.std.proofs.Common.{◌≡◌, ◌∙◌, sym, subst}
-use Rattle.mono_syntax.specs.declared.script.Scoped.{Scoped}
-use Rattle.static_types.specs.Scripts.{IsTypeFault}
-use Rattle.cast_rules.specs.HasCasts.{HasCasts}
-use Rattle.cast_rules.proofs.WellTypedScript.{well_typed_by}
+use Rattle.load_script.proofs.TreeLoading.{closed_program, closed_fault, closed_refuses, typed_fault, typed_refuses}
 use Rattle.load_script.proofs.phases.load_scoped.Goals as goal
 
-pub returns-clause-refuses : goal.returns-clause-refuses
-returns-clause-refuses c = λ r f. c.in_ok-typed.ensures.refuses r (subst (λ (d : Scoped). IsTypeFault d.script r) (sym c.in_ok-scoped.ensures) f)
+pub returns-in-Ok-clause-accepted : goal.returns-in-Ok-clause-accepted
+returns-in-Ok-clause-accepted c =
+    closed_program c.args.scoped c.requires.right c.requires.scope c.in-Ok.script c.in-Ok.ensures.accepted c.close_types.result c.close_types.ensures.accepted
 
-pub returns-clause-well_typed : goal.returns-clause-well_typed
-returns-clause-well_typed c =
-    let same : c.in_ok-typed.typed.scoped ≡ c.args.scoped = c.in_ok-typed.ensures.accepted.scoped ∙ c.in_ok-scoped.ensures in
-    well_typed_by c.args.scoped c.in_ok-script.script c.requires.shape c.requires.right c.requires.scope
-    (subst (λ (d : Scoped). HasCasts d c.in_ok-script.script) same c.in_ok-script.ensures.casts)
+pub returns-in-Ok-clause-refused : goal.returns-in-Ok-clause-refused
+returns-in-Ok-clause-refused c =
+    closed_fault c.args.scoped c.requires.right c.in-Ok.script c.in-Ok.ensures.accepted c.in-Ok.ensures.typed c.close_types.result c.close_types.ensures.refused
+
+pub returns-in-Ok-clause-refuses : goal.returns-in-Ok-clause-refuses
+returns-in-Ok-clause-refuses c =
+    closed_refuses c.args.scoped c.requires.right c.in-Ok.script c.in-Ok.ensures.accepted c.in-Ok.ensures.typed c.close_types.result c.close_types.ensures.refuses
+
+pub returns-in-Err-clause-refused : goal.returns-in-Err-clause-refused
+returns-in-Err-clause-refused c = typed_fault c.args.scoped.script c.requires.right c.in-Err.fault c.in-Err.ensures.refused
+
+pub returns-in-Err-clause-refuses : goal.returns-in-Err-clause-refuses
+returns-in-Err-clause-refuses c = typed_refuses c.args.scoped.script c.requires.right c.in-Err.fault c.in-Err.ensures.refused c.in-Err.ensures.refuses

@@ -6,10 +6,10 @@ use Rattle.mono_cli.proofs.run.show_text.Goals as goal
 
 pub returns-in-Ok : goal.returns-in-Ok
 returns-in-Ok g c =
-    shows_also _ _ (λ a h. program_answers c.args.verb c.args.text.now c.in-Ok.script c.in-Ok.ensures.accepted c.in-Ok.ensures.refuses a h) _ _ _ _ _ _ _ _ _ c.show_accepted.ensures
+    shows_also _ _ (λ a h. program_answers c.args.verb c.args.text.now c.in-Ok.accepted c.in-Ok.ensures.accepted c.in-Ok.ensures.refuses a h) _ _ _ _ _ _ _ _ _ c.show_accepted.ensures
 
 pub show_accepted-requires-clause-tree : goal.show_accepted-requires-clause-tree
-show_accepted-requires-clause-tree g c = program_grammatical c.args.text.now c.in-Ok.script c.in-Ok.ensures.accepted
+show_accepted-requires-clause-tree g c = program_grammatical c.args.text.now c.in-Ok.accepted c.in-Ok.ensures.accepted
 
 pub show_accepted-requires-clause-texts : goal.show_accepted-requires-clause-texts
-show_accepted-requires-clause-texts g c = program_texts c.args.text.now c.in-Ok.script c.in-Ok.ensures.accepted
+show_accepted-requires-clause-texts g c = program_texts c.args.text.now c.in-Ok.accepted c.in-Ok.ensures.accepted

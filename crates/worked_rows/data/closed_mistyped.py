@@ -1,0 +1,519 @@
+class G0a:
+    pa: int
+    pb: Dyn
+    pc: Dyn
+    pd: Dyn
+    pe: Dyn
+    pf: Dyn
+    pg: Dyn
+    ph: Dyn
+    pi: Dyn
+    pj: Dyn
+    pk: Dyn
+class G0b:
+    pa: Dyn
+    pb: int
+    pc: Dyn
+    pd: Dyn
+    pe: Dyn
+    pf: Dyn
+    pg: Dyn
+    ph: Dyn
+    pi: Dyn
+    pj: Dyn
+    pk: Dyn
+class G0c:
+    pa: Dyn
+    pb: Dyn
+    pc: int
+    pd: Dyn
+    pe: Dyn
+    pf: Dyn
+    pg: Dyn
+    ph: Dyn
+    pi: Dyn
+    pj: Dyn
+    pk: Dyn
+class G0d:
+    pa: Dyn
+    pb: Dyn
+    pc: Dyn
+    pd: int
+    pe: Dyn
+    pf: Dyn
+    pg: Dyn
+    ph: Dyn
+    pi: Dyn
+    pj: Dyn
+    pk: Dyn
+class G0e:
+    pa: Dyn
+    pb: Dyn
+    pc: Dyn
+    pd: Dyn
+    pe: int
+    pf: Dyn
+    pg: Dyn
+    ph: Dyn
+    pi: Dyn
+    pj: Dyn
+    pk: Dyn
+class G0f:
+    pa: Dyn
+    pb: Dyn
+    pc: Dyn
+    pd: Dyn
+    pe: Dyn
+    pf: int
+    pg: Dyn
+    ph: Dyn
+    pi: Dyn
+    pj: Dyn
+    pk: Dyn
+class G0g:
+    pa: Dyn
+    pb: Dyn
+    pc: Dyn
+    pd: Dyn
+    pe: Dyn
+    pf: Dyn
+    pg: int
+    ph: Dyn
+    pi: Dyn
+    pj: Dyn
+    pk: Dyn
+class G0h:
+    pa: Dyn
+    pb: Dyn
+    pc: Dyn
+    pd: Dyn
+    pe: Dyn
+    pf: Dyn
+    pg: Dyn
+    ph: int
+    pi: Dyn
+    pj: Dyn
+    pk: Dyn
+class G0i:
+    pa: Dyn
+    pb: Dyn
+    pc: Dyn
+    pd: Dyn
+    pe: Dyn
+    pf: Dyn
+    pg: Dyn
+    ph: Dyn
+    pi: int
+    pj: Dyn
+    pk: Dyn
+class G0j:
+    pa: Dyn
+    pb: Dyn
+    pc: Dyn
+    pd: Dyn
+    pe: Dyn
+    pf: Dyn
+    pg: Dyn
+    ph: Dyn
+    pi: Dyn
+    pj: int
+    pk: Dyn
+class G0k:
+    pa: Dyn
+    pb: Dyn
+    pc: Dyn
+    pd: Dyn
+    pe: Dyn
+    pf: Dyn
+    pg: Dyn
+    ph: Dyn
+    pi: Dyn
+    pj: Dyn
+    pk: int
+class G1a:
+    qa: int
+    qb: Dyn
+    qc: Dyn
+    qd: Dyn
+    qe: Dyn
+    qf: Dyn
+    qg: Dyn
+    qh: Dyn
+    qi: Dyn
+    qj: Dyn
+class G1b:
+    qa: Dyn
+    qb: int
+    qc: Dyn
+    qd: Dyn
+    qe: Dyn
+    qf: Dyn
+    qg: Dyn
+    qh: Dyn
+    qi: Dyn
+    qj: Dyn
+class G1c:
+    qa: Dyn
+    qb: Dyn
+    qc: int
+    qd: Dyn
+    qe: Dyn
+    qf: Dyn
+    qg: Dyn
+    qh: Dyn
+    qi: Dyn
+    qj: Dyn
+class G1d:
+    qa: Dyn
+    qb: Dyn
+    qc: Dyn
+    qd: int
+    qe: Dyn
+    qf: Dyn
+    qg: Dyn
+    qh: Dyn
+    qi: Dyn
+    qj: Dyn
+class G1e:
+    qa: Dyn
+    qb: Dyn
+    qc: Dyn
+    qd: Dyn
+    qe: int
+    qf: Dyn
+    qg: Dyn
+    qh: Dyn
+    qi: Dyn
+    qj: Dyn
+class G1f:
+    qa: Dyn
+    qb: Dyn
+    qc: Dyn
+    qd: Dyn
+    qe: Dyn
+    qf: int
+    qg: Dyn
+    qh: Dyn
+    qi: Dyn
+    qj: Dyn
+class G1g:
+    qa: Dyn
+    qb: Dyn
+    qc: Dyn
+    qd: Dyn
+    qe: Dyn
+    qf: Dyn
+    qg: int
+    qh: Dyn
+    qi: Dyn
+    qj: Dyn
+class G1h:
+    qa: Dyn
+    qb: Dyn
+    qc: Dyn
+    qd: Dyn
+    qe: Dyn
+    qf: Dyn
+    qg: Dyn
+    qh: int
+    qi: Dyn
+    qj: Dyn
+class G1i:
+    qa: Dyn
+    qb: Dyn
+    qc: Dyn
+    qd: Dyn
+    qe: Dyn
+    qf: Dyn
+    qg: Dyn
+    qh: Dyn
+    qi: int
+    qj: Dyn
+class G1j:
+    qa: Dyn
+    qb: Dyn
+    qc: Dyn
+    qd: Dyn
+    qe: Dyn
+    qf: Dyn
+    qg: Dyn
+    qh: Dyn
+    qi: Dyn
+    qj: int
+class G2a:
+    ra: int
+    rb: Dyn
+    rc: Dyn
+    rd: Dyn
+    re: Dyn
+    rf: Dyn
+    rg: Dyn
+    rh: Dyn
+    ri: Dyn
+class G2b:
+    ra: Dyn
+    rb: int
+    rc: Dyn
+    rd: Dyn
+    re: Dyn
+    rf: Dyn
+    rg: Dyn
+    rh: Dyn
+    ri: Dyn
+class G2c:
+    ra: Dyn
+    rb: Dyn
+    rc: int
+    rd: Dyn
+    re: Dyn
+    rf: Dyn
+    rg: Dyn
+    rh: Dyn
+    ri: Dyn
+class G2d:
+    ra: Dyn
+    rb: Dyn
+    rc: Dyn
+    rd: int
+    re: Dyn
+    rf: Dyn
+    rg: Dyn
+    rh: Dyn
+    ri: Dyn
+class G2e:
+    ra: Dyn
+    rb: Dyn
+    rc: Dyn
+    rd: Dyn
+    re: int
+    rf: Dyn
+    rg: Dyn
+    rh: Dyn
+    ri: Dyn
+class G2f:
+    ra: Dyn
+    rb: Dyn
+    rc: Dyn
+    rd: Dyn
+    re: Dyn
+    rf: int
+    rg: Dyn
+    rh: Dyn
+    ri: Dyn
+class G2g:
+    ra: Dyn
+    rb: Dyn
+    rc: Dyn
+    rd: Dyn
+    re: Dyn
+    rf: Dyn
+    rg: int
+    rh: Dyn
+    ri: Dyn
+class G2h:
+    ra: Dyn
+    rb: Dyn
+    rc: Dyn
+    rd: Dyn
+    re: Dyn
+    rf: Dyn
+    rg: Dyn
+    rh: int
+    ri: Dyn
+class G2i:
+    ra: Dyn
+    rb: Dyn
+    rc: Dyn
+    rd: Dyn
+    re: Dyn
+    rf: Dyn
+    rg: Dyn
+    rh: Dyn
+    ri: int
+class G3a:
+    sa: int
+    sb: Dyn
+    sc: Dyn
+    sd: Dyn
+    se: Dyn
+    sf: Dyn
+    sg: Dyn
+    sh: Dyn
+class G3b:
+    sa: Dyn
+    sb: int
+    sc: Dyn
+    sd: Dyn
+    se: Dyn
+    sf: Dyn
+    sg: Dyn
+    sh: Dyn
+class G3c:
+    sa: Dyn
+    sb: Dyn
+    sc: int
+    sd: Dyn
+    se: Dyn
+    sf: Dyn
+    sg: Dyn
+    sh: Dyn
+class G3d:
+    sa: Dyn
+    sb: Dyn
+    sc: Dyn
+    sd: int
+    se: Dyn
+    sf: Dyn
+    sg: Dyn
+    sh: Dyn
+class G3e:
+    sa: Dyn
+    sb: Dyn
+    sc: Dyn
+    sd: Dyn
+    se: int
+    sf: Dyn
+    sg: Dyn
+    sh: Dyn
+class G3f:
+    sa: Dyn
+    sb: Dyn
+    sc: Dyn
+    sd: Dyn
+    se: Dyn
+    sf: int
+    sg: Dyn
+    sh: Dyn
+class G3g:
+    sa: Dyn
+    sb: Dyn
+    sc: Dyn
+    sd: Dyn
+    se: Dyn
+    sf: Dyn
+    sg: int
+    sh: Dyn
+class G3h:
+    sa: Dyn
+    sb: Dyn
+    sc: Dyn
+    sd: Dyn
+    se: Dyn
+    sf: Dyn
+    sg: Dyn
+    sh: int
+class G4a:
+    ta: int
+    tb: Dyn
+    tc: Dyn
+    td: Dyn
+    te: Dyn
+    tf: Dyn
+    tg: Dyn
+class G4b:
+    ta: Dyn
+    tb: int
+    tc: Dyn
+    td: Dyn
+    te: Dyn
+    tf: Dyn
+    tg: Dyn
+class G4c:
+    ta: Dyn
+    tb: Dyn
+    tc: int
+    td: Dyn
+    te: Dyn
+    tf: Dyn
+    tg: Dyn
+class G4d:
+    ta: Dyn
+    tb: Dyn
+    tc: Dyn
+    td: int
+    te: Dyn
+    tf: Dyn
+    tg: Dyn
+class G4e:
+    ta: Dyn
+    tb: Dyn
+    tc: Dyn
+    td: Dyn
+    te: int
+    tf: Dyn
+    tg: Dyn
+class G4f:
+    ta: Dyn
+    tb: Dyn
+    tc: Dyn
+    td: Dyn
+    te: Dyn
+    tf: int
+    tg: Dyn
+class G4g:
+    ta: Dyn
+    tb: Dyn
+    tc: Dyn
+    td: Dyn
+    te: Dyn
+    tf: Dyn
+    tg: int
+class G5a:
+    ua: int
+    ub: Dyn
+    uc: Dyn
+    ud: Dyn
+    ue: Dyn
+    uf: Dyn
+    ug: Dyn
+class G5b:
+    ua: Dyn
+    ub: int
+    uc: Dyn
+    ud: Dyn
+    ue: Dyn
+    uf: Dyn
+    ug: Dyn
+class G5c:
+    ua: Dyn
+    ub: Dyn
+    uc: int
+    ud: Dyn
+    ue: Dyn
+    uf: Dyn
+    ug: Dyn
+class G5d:
+    ua: Dyn
+    ub: Dyn
+    uc: Dyn
+    ud: int
+    ue: Dyn
+    uf: Dyn
+    ug: Dyn
+class G5e:
+    ua: Dyn
+    ub: Dyn
+    uc: Dyn
+    ud: Dyn
+    ue: int
+    uf: Dyn
+    ug: Dyn
+class G5f:
+    ua: Dyn
+    ub: Dyn
+    uc: Dyn
+    ud: Dyn
+    ue: Dyn
+    uf: int
+    ug: Dyn
+class G5g:
+    ua: Dyn
+    ub: Dyn
+    uc: Dyn
+    ud: Dyn
+    ue: Dyn
+    uf: Dyn
+    ug: int
+class One:
+    more: int
+x: int = "a"

@@ -1,0 +1,122 @@
+class C0:
+    f: Dyn
+class C1:
+    a: C0
+    b: C0
+class C2:
+    a: C1
+    b: C1
+class C3:
+    a: C2
+    b: C2
+class C4:
+    a: C3
+    b: C3
+class C5:
+    a: C4
+    b: C4
+class C6:
+    a: C5
+    b: C5
+class C7:
+    a: C6
+    b: C6
+class C8:
+    a: C7
+    b: C7
+class C9:
+    a: C8
+    b: C8
+class C10:
+    a: C9
+    b: C9
+class C11:
+    a: C10
+    b: C10
+class C12:
+    a: C11
+    b: C11
+class C13:
+    a: C12
+    b: C12
+class C14:
+    a: C13
+    b: C13
+class C15:
+    a: C14
+    b: C14
+class C16:
+    a: C15
+    b: C15
+class C17:
+    a: C16
+    b: C16
+class C18:
+    a: C17
+    b: C17
+class C19:
+    a: C18
+    b: C18
+class C20:
+    a: C19
+    b: C19
+class C21:
+    a: C20
+    b: C20
+class C22:
+    a: C21
+    b: C21
+class C23:
+    a: C22
+    b: C22
+class C24:
+    a: C23
+    b: C23
+class C25:
+    a: C24
+    b: C24
+class C26:
+    a: C25
+    b: C25
+class C27:
+    a: C26
+    b: C26
+class C28:
+    a: C27
+    b: C27
+class C29:
+    a: C28
+    b: C28
+class C30:
+    a: C29
+    b: C29
+class C31:
+    a: C30
+    b: C30
+class C32:
+    a: C31
+    b: C31
+class C33:
+    a: C32
+    b: C32
+class C34:
+    a: C33
+    b: C33
+class C35:
+    a: C34
+    b: C34
+class C36:
+    a: C35
+    b: C35
+class C37:
+    a: C36
+    b: C36
+class C38:
+    a: C37
+    b: C37
+class C39:
+    a: C38
+    b: C38
+class C40:
+    a: C39
+    b: C39

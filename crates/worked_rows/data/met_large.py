@@ -1,0 +1,32 @@
+class C0:
+    f: Dyn
+class C1:
+    a: C0
+    b: C0
+class C2:
+    a: C1
+    b: C1
+class C3:
+    a: C2
+    b: C2
+class C4:
+    a: C3
+    b: C3
+class C5:
+    a: C4
+    b: C4
+class C6:
+    a: C5
+    b: C5
+class C7:
+    a: C6
+    b: C6
+class C8:
+    a: C7
+    b: C7
+class M:
+    a: C8
+    b: Dyn
+class N:
+    a: Dyn
+    b: C8
