@@ -1,0 +1,4 @@
+-- Rules.
+
+-- a function at the meet of its merged type and another
+pub mod Narrowed
