@@ -61,7 +61,7 @@ put_new l t n = ap (λ (b : Bool). cond b l (l ++ t ∷ [])) n
 put_old : (l : List Ty) (t : Ty) → list_any (ty_eq t) l ≡ true → put l t ≡ l
 put_old l t n = ap (λ (b : Bool). cond b l (l ++ t ∷ [])) n
 
-pushed_fault : (l : List Ty) (t : Ty) (r : Reason) → IsWithinLimits l → IsAtFault (length l) t r → IsFirstFault (l ++ t ∷ []) r
+pub pushed_fault : (l : List Ty) (t : Ty) (r : Reason) → IsWithinLimits l → IsAtFault (length l) t r → IsFirstFault (l ++ t ∷ []) r
 pushed_fault l t r w f = record {
   at = length l;
   member = t;
