@@ -1,0 +1,14 @@
+-- Computed: sizes of parts of types, counted up to the limits.
+use Rattle.mono_syntax.specs.Ty.{Tys, no_tys, more_tys, Fields, no_fields, more_fields}
+use Rattle.mono_tree.specs.computed.CountedSizes.{measured, joined}
+use Rattle.mono_tree.specs.declared.size.Size.{Size}
+
+-- some parts and the types behind them
+abbrev pub sizes_onto : Size → Tys → Size
+sizes_onto s no_tys = s
+sizes_onto s (more_tys t ts) = sizes_onto (joined s (measured t)) ts
+
+-- some parts and the types of fields behind them
+abbrev pub fields_onto : Size → Fields → Size
+fields_onto s no_fields = s
+fields_onto s (more_fields n t fs) = fields_onto (joined s (measured t)) fs

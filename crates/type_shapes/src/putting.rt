@@ -1,0 +1,89 @@
+ghost use Rattle.std.specs.Prelude.{◌≡◌, false, IfErr, OnOk};
+ghost use Rattle.std.specs.List.{list_any};
+ghost use Rattle.mono_syntax.specs.computed.TyEq.{ty_eq};
+ghost use Rattle.mono_tree.specs.ClosedList.{put};
+ghost use Rattle.type_shapes.specs.Limits.{IsWithinLimits, refused, IsFault};
+ghost use Rattle.type_shapes.specs.Numbered.{IsNumbered};
+
+use crate::limits::MOST_TYPES;
+use crate::measure::is_too_large;
+use crate::numbering::shape_of;
+use crate::shape::Shape;
+use indexmap::IndexSet;
+use mono_syntax::{LoadFault, Name, Place, Reason, Refusal, Ty};
+use mono_tree::copy_type;
+use sqlite_items::Items;
+use std::alloc::Global;
+
+fn refusal(reason: Reason) -> LoadFault
+    ensures { result ≡ refused reason }
+{
+    let place = Place { line: 1, column: 1 };
+    LoadFault::Refused(Refusal { place, reason })
+}
+
+/// A type goes to the end of the list, unless it is there already.
+pub fn put(set: &mut IndexSet<Ty>, ty: Ty) -> Result<(), LoadFault>
+    requires { IsWithinLimits set.old.keys }
+    ensures keys { OnOk result (set.new.keys ≡ put set.old.keys ty) }
+    ensures fine { OnOk result (IsWithinLimits set.new.keys) }
+    ensures fault { IfErr result (IsFault (put set.old.keys ty)) }
+{
+    let large = is_too_large(&ty);
+    let added = set.insert(ty)?;
+    if !added {
+        return Ok(());
+    }
+    if large {
+        return Err(refusal(Reason::TypeTooLarge));
+    }
+    if set.len() > MOST_TYPES {
+        return Err(refusal(Reason::TooManyTypes));
+    }
+    Ok(())
+}
+
+/// The same of a type that is not there.
+fn put_new(
+    alloc: Global,
+    names: &mut Vec<Items<Name>>,
+    set: &mut IndexSet<Ty>,
+    shapes: &mut IndexSet<Shape>,
+    ty: &Ty,
+) -> Result<(), LoadFault>
+    requires numbered { IsNumbered names.old.items set.old.keys shapes.old.keys }
+    requires fine { IsWithinLimits set.old.keys }
+    requires absent { list_any (ty_eq ty.now) set.old.keys ≡ false }
+    ensures numbered { OnOk result (IsNumbered names.new.items set.new.keys shapes.new.keys) }
+    ensures keys { OnOk result (set.new.keys ≡ put set.old.keys ty.now) }
+    ensures fine { OnOk result (IsWithinLimits set.new.keys) }
+    ensures fault { IfErr result (IsFault (put set.old.keys ty.now)) }
+{
+    let shape = shape_of(alloc, names, set, ty)?;
+    let copy = copy_type(alloc, ty)?;
+    put(set, copy)?;
+    shapes.insert(shape)?;
+    Ok(())
+}
+
+/// A type whose parts are in the list goes to its end with its shape, unless it is there already. Refused where the type is over the
+/// limits, or is one too many.
+pub fn put_numbered(
+    alloc: Global,
+    names: &mut Vec<Items<Name>>,
+    set: &mut IndexSet<Ty>,
+    shapes: &mut IndexSet<Shape>,
+    ty: &Ty,
+) -> Result<(), LoadFault>
+    requires numbered { IsNumbered names.old.items set.old.keys shapes.old.keys }
+    requires fine { IsWithinLimits set.old.keys }
+    ensures numbered { OnOk result (IsNumbered names.new.items set.new.keys shapes.new.keys) }
+    ensures keys { OnOk result (set.new.keys ≡ put set.old.keys ty.now) }
+    ensures fine { OnOk result (IsWithinLimits set.new.keys) }
+    ensures fault { IfErr result (IsFault (put set.old.keys ty.now)) }
+{
+    if set.contains(ty) {
+        return Ok(());
+    }
+    put_new(alloc, names, set, shapes, ty)
+}

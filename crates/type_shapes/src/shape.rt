@@ -1,0 +1,87 @@
+ghost use Rattle.std.specs.Prelude.{◌≡◌};
+ghost use Rattle.type_shapes.specs.computed.ShapeEq.{head_eq, head_number};
+
+use sqlite_items::Items;
+use std::hash::{Hash, Hasher};
+
+/// What a type is but for its parts. An object's field names are told by a number.
+#[derive(Clone, Copy)]
+pub enum Head {
+    Dyn,
+    Int,
+    Bool,
+    Str,
+    Nil,
+    Fun,
+    Obj(u16),
+}
+
+/// A type by the numbers of its parts: a function's result comes first, and then its parameters.
+#[derive(Drop)]
+pub struct Shape {
+    pub head: Head,
+    pub parts: Items<u16>,
+}
+
+pub fn same_head(a: Head, b: Head) -> bool
+    ensures { result ≡ head_eq a b }
+{
+    match (a, b) {
+        (Head::Dyn, Head::Dyn) => true,
+        (Head::Int, Head::Int) => true,
+        (Head::Bool, Head::Bool) => true,
+        (Head::Str, Head::Str) => true,
+        (Head::Nil, Head::Nil) => true,
+        (Head::Fun, Head::Fun) => true,
+        (Head::Obj(m), Head::Obj(n)) => m == n,
+        _ => false,
+    }
+}
+
+impl PartialEq for Shape {
+    ghost use Rattle.type_shapes.specs.computed.ShapeEq.{shape_eq};
+    ghost use Rattle.type_shapes.specs.ShapeEqLaws.{shape_eq-partial};
+
+    ghost eq = { shape_eq };
+
+    ghost laws = { shape_eq-partial };
+
+    fn eq(&self, other: &Shape) -> bool {
+        same_head(self.head, other.head) && self.parts.as_slice() == other.parts.as_slice()
+    }
+}
+
+impl Eq for Shape {
+    ghost use Rattle.type_shapes.specs.ShapeEqLaws.{shape_eq-laws};
+
+    ghost laws = { shape_eq-laws };
+}
+
+impl Hash for Shape {
+    ghost use Rattle.type_shapes.specs.computed.ShapeEq.{shape_fed};
+    ghost use Rattle.type_shapes.specs.ShapeEqLaws.{shape_fed-alike};
+
+    ghost hash_input = { shape_fed };
+
+    ghost respects_eq = { shape_fed-alike };
+
+    fn hash<H: Hasher>(&self, state: &mut H) {
+        let kind = head_number(self.head);
+        kind.hash(state);
+        self.parts.as_slice().hash(state);
+    }
+}
+
+fn head_number(head: Head) -> u32
+    ensures { result ≡ head_number head }
+{
+    match head {
+        Head::Dyn => 0,
+        Head::Int => 1,
+        Head::Bool => 2,
+        Head::Str => 3,
+        Head::Nil => 4,
+        Head::Fun => 5,
+        Head::Obj(n) => n as u32 + 6,
+    }
+}
