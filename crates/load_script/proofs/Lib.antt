@@ -3,4 +3,5 @@
 pub mod Fronts
 pub mod NameTexts
 pub mod TextLoading
+pub mod ClosingTypes
 pub mod TreeLoading

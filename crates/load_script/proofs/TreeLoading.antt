@@ -1,5 +1,5 @@
 -- What a tree comes to, by what the next phase makes of its names, its types and its closed types.
-use Rattle.std.proofs.Common.{◌≡◌, ◌∙◌, inl, inr, Result, Ok, Err, IfOk, IfErr, None, refl, ap, sym, subst}
+use Rattle.std.proofs.Common.{◌≡◌, ◌∙◌, inl, inr, Result, Ok, Err, IfOk, IfErr, refl, ap, sym, subst}
 use Rattle.std.specs.Prelude.{IsOkUnless}
 use Rattle.mono_syntax.specs.declared.cast.CastScript.{CastScript}
 use Rattle.mono_syntax.specs.declared.refusal.LoadFault.{LoadFault}
@@ -13,7 +13,7 @@ use Rattle.script_rules.specs.ScopeFaults.{IsRight, IsScopeRefusal}
 use Rattle.script_rules.specs.Scoping.{IsScope}
 use Rattle.static_types.specs.Scripts.{IsTypeFault}
 use Rattle.cast_rules.specs.HasCasts.{HasCasts}
-use Rattle.meet_closure.specs.Faults.{first_fault}
+use Rattle.type_shapes.specs.Limits.{IsWithinLimits}
 use Rattle.load_script.specs.declared.accepted.Accepted.{Accepted}
 use Rattle.load_script.specs.TreePhases.{IsClosedListOf, RefusesTypes, IsTreeProgram, RefusesTree, misnamed, mistyped, unclosed}
 
@@ -36,7 +36,7 @@ no_program f = Err f
 
 -- the accepted script is this one, and its types are closed
 abbrev IsClosed : CastScript → Accepted → Type 0
-IsClosed q p = (p.script ≡ q) × IsClosedListOf q.scoped.script p.closed.keys × (first_fault p.closed.keys ≡ None)
+IsClosed q p = (p.script ≡ q) × IsClosedListOf q.scoped.script p.closed.keys × IsWithinLimits p.closed.keys
 
 own_tree : (d : Scoped) (q : CastScript) → HasCasts d q → q.scoped.script ≡ d.script
 own_tree d q casts = ap (λ (x : Scoped). x.script) casts.scoped
@@ -49,7 +49,7 @@ closed_program d right is q casts (Ok p) h = record {
   scope = is;
   casts = subst (λ (x : CastScript). HasCasts d x) (sym h.0) casts;
   closed = subst (λ (s : Script). IsClosedListOf s p.closed.keys) (own_tree d q casts) h.1;
-  fine = h.2;
+  within = h.2;
 }
 closed_program d right is q casts (Err f) h = tt
 

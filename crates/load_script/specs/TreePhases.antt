@@ -1,8 +1,7 @@
 -- From the tree of a script to its program: its names get their types, its expressions get theirs, it gets its casts, and its types are closed.
 -- The first phase that refuses ends it.
-use Rattle.std.specs.Prelude.{◌≡◌, List, Some, None}
+use Rattle.std.specs.Prelude.{◌≡◌, List}
 use Rattle.mono_syntax.specs.Ty.{Ty}
-use Rattle.mono_syntax.specs.declared.leaf.Place.{Place}
 use Rattle.mono_syntax.specs.declared.refusal.Refusal.{Refusal}
 use Rattle.mono_syntax.specs.declared.script.Scoped.{Scoped}
 use Rattle.mono_syntax.specs.declared.tree.Script.{Script}
@@ -12,7 +11,7 @@ use Rattle.script_rules.specs.Scoping.{IsScope}
 use Rattle.static_types.specs.Scripts.{IsTypeFault}
 use Rattle.cast_rules.specs.HasCasts.{HasCasts}
 use Rattle.written_types.specs.ScriptTypes.{AreScriptTypes}
-use Rattle.meet_closure.specs.Faults.{first_fault}
+use Rattle.type_shapes.specs.Limits.{IsWithinLimits, IsFirstFault}
 use Rattle.load_script.specs.declared.accepted.Accepted.{Accepted}
 
 -- ---- closed types
@@ -23,16 +22,12 @@ pub record IsClosedListOf (s : Script) (l : List Ty) : Type 0 where
   pub are : AreScriptTypes s written
   pub closed : IsClosedList written l
 
--- where a script as a whole is refused
-abbrev pub beginning : Place
-beginning = record { line = 1; column = 1 }
-
 -- the script is refused for the first member of that list that is too large or one too many
 pub record RefusesTypes (s : Script) (r : Refusal) : Type 0 where
   pub list : List Ty
   pub closed : IsClosedListOf s list
-  pub fault : first_fault list ≡ Some r.reason
-  pub place : r.place ≡ beginning
+  pub fault : IsFirstFault list r.reason
+  pub place : r.place ≡ record { line = 1; column = 1 }
 
 -- ---- the tree's program
 
@@ -44,7 +39,7 @@ pub record IsTreeProgram (s : Script) (p : Accepted) : Type 0 where
   pub scope : IsScope s scoped
   pub casts : HasCasts scoped p.script
   pub closed : IsClosedListOf s p.closed.keys
-  pub fine : first_fault p.closed.keys ≡ None
+  pub within : IsWithinLimits p.closed.keys
 
 -- The tree is refused so: for its first fault of names, and where there is none of size; else for its first fault of typing; else for its closed
 -- types. To get its casts no script is refused.

@@ -1,4 +1,4 @@
-ghost use Rattle.std.specs.Prelude.{◌≡◌, ◌≤◌, length, chars, IfOk, IfErr, None};
+ghost use Rattle.std.specs.Prelude.{◌≡◌, ◌≤◌, length, chars, IfOk, IfErr};
 ghost use Rattle.std.specs.Str.{IsUtf8};
 ghost use Rattle.mono_syntax.specs.Limits.{most_bytes};
 ghost use Rattle.mono_syntax.specs.declared.refusal.Refusal.{Refusal};
@@ -10,7 +10,7 @@ ghost use Rattle.script_rules.specs.WellTyped.{IsWellTypedProgram};
 ghost use Rattle.script_shape.specs.Shapes.{IsShaped};
 ghost use Rattle.static_types.specs.Scripts.{IsTypeFault};
 ghost use Rattle.cast_rules.specs.HasCasts.{HasCasts};
-ghost use Rattle.meet_closure.specs.Faults.{first_fault};
+ghost use Rattle.type_shapes.specs.Limits.{IsWithinLimits};
 ghost use Rattle.load_script.specs.TreePhases.{IsClosedListOf, RefusesTypes, IsTreeProgram, RefusesTree};
 ghost use Rattle.load_script.specs.Phases.{IsTokensProgram, RefusesTokens, IsTextProgram, RefusesText, IsProgramOf, IsFirstRefusal};
 
@@ -19,11 +19,13 @@ use cast_insert::{insert, script_types};
 use consistency::check;
 use meet_closure::close;
 use mono_list::Shared;
-use mono_syntax::{CastScript, LoadFault, Scoped, Script};
+use mono_syntax::{CastScript, LoadFault, Scoped, Script, Ty};
+use mono_tree::copy_type;
 use name_scope::scope;
 use parse_script::parse;
 use py_lexer::{Token, decode, lex};
-use std::alloc::Global;
+use sqlite_items::Items;
+use std::alloc::{AllocError, Global};
 
 /// A script whose names are right: its expressions get their types, and then it gets its casts.
 fn load_typed(alloc: Global, scoped: Scoped) -> Result<CastScript, LoadFault>
@@ -42,16 +44,30 @@ fn load_typed(alloc: Global, scoped: Scoped) -> Result<CastScript, LoadFault>
     Ok(script)
 }
 
+/// The same types, each one's parts shared.
+fn own_types(alloc: Global, types: &[Shared<Ty>]) -> Result<Items<Ty>, AllocError>
+    ensures { IfOk result (λ own. own ≡ types.now) }
+{
+    let mut own = Items::new(alloc);
+    for ty in types {
+        own.push(copy_type(alloc, ty.get())?)?;
+    }
+    Ok(own)
+}
+
 /// A script with its casts: its types are closed.
 fn close_types(alloc: Global, script: CastScript) -> Result<Accepted, LoadFault>
     requires { IsWellTypedProgram script }
-    ensures accepted { IfOk result (λ p. (p.script ≡ script) × IsClosedListOf script.scoped.script p.closed.keys × (first_fault p.closed.keys ≡ None)) }
+    ensures accepted { IfOk result (λ p. (p.script ≡ script) × IsClosedListOf script.scoped.script p.closed.keys × IsWithinLimits p.closed.keys) }
     ensures refused { IfErr result (IsFault (RefusesTypes script.scoped.script)) }
     ensures refuses { (r : Refusal) → RefusesTypes script.scoped.script r → Refuses result r }
 {
-    let written = script_types(alloc, &script)?;
-    let closed = close(alloc, written.as_slice())?;
-    Ok(Accepted { script, closed })
+    let shared = script_types(alloc, &script)?;
+    let written = own_types(alloc, shared.as_slice())?;
+    match close(alloc, written.as_slice()) {
+        Ok(closed) => Ok(Accepted { script, closed }),
+        Err(fault) => Err(fault),
+    }
 }
 
 /// A script whose names are right, up to its closed types.
