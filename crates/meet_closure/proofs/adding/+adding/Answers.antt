@@ -2,8 +2,11 @@ use Rattle.std.proofs.Common.{arith}
 use Rattle.std.proofs.lemmas.Result.{err_from_is_err_and}
 use Rattle.mono_syntax.specs.TyView.{tys}
 use Rattle.mono_tree.specs.ClosedList.{parts_first, all_parts_first}
-use Rattle.meet_closure.proofs.FaultTurns.{fault_before, fault_first, fault_at, fault_at_field}
+use Rattle.meet_closure.proofs.FaultTurns.{part_there, fault_before, fault_first, fault_at, fault_at_field}
 use Rattle.meet_closure.proofs.adding.+adding.Goals as goal
+
+pub add-put_numbered-requires-clause-parts : goal.add-put_numbered-requires-clause-parts
+add-put_numbered-requires-clause-parts t c = part_there c.args.set.now.keys c.add_parts.new.set.keys c.args.ty.now c.in_ok-add_parts.ensures.keys
 
 pub add-returns-in_err-add_parts-clause-fault : goal.add-returns-in_err-add_parts-clause-fault
 add-returns-in_err-add_parts-clause-fault t c =
