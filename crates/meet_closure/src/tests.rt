@@ -14,13 +14,18 @@ fn built(alloc: Global, steps: &[u8]) -> Result<Ty, AllocError> {
     let mut params = Items::new(alloc);
     let mut members = Items::new(alloc);
     for step in steps {
-        let last = Ty { kind: mem::replace(&mut kind, TyKind::Dyn) };
+        let last = Ty {
+            kind: mem::replace(&mut kind, TyKind::Dyn),
+        };
         match *step {
             b'i' => kind = TyKind::Int,
             b'b' => kind = TyKind::Bool,
             b's' => kind = TyKind::Str,
             b'p' => params.push(Shared::new(alloc, last)?)?,
-            b'f' => kind = TyKind::Fun(mem::replace(&mut params, Items::new(alloc)), Shared::new(alloc, last)?),
+            b'f' => kind = TyKind::Fun(
+                mem::replace(&mut params, Items::new(alloc)),
+                Shared::new(alloc, last)?,
+            ),
             b'x' | b'y' => {
                 let ty = Shared::new(alloc, last)?;
                 let name = Name::new(alloc, &[*step])?;
@@ -59,7 +64,9 @@ fn pair(alloc: Global, x: &Ty, y: &Ty) -> Result<Ty, AllocError> {
         let ty = Shared::new(alloc, copy_type(alloc, ty)?)?;
         members.push(Field { name, ty })?;
     }
-    Ok(Ty { kind: TyKind::Obj(members) })
+    Ok(Ty {
+        kind: TyKind::Obj(members),
+    })
 }
 
 #[test]
@@ -89,7 +96,9 @@ fn closed_lists(rt: HostRuntime) -> Result<(), Fail> {
             Ok(list) => texts(alloc, list.as_slice())?,
             Err(_) => Vec::new(alloc),
         };
-        assert!(rt; text.as_slice().strip_prefix(b"; Dyn; int; bool; str; None") == Some(wanted.as_bytes()));
+        assert!(rt;
+            text.as_slice().strip_prefix(b"; Dyn; int; bool; str; None") == Some(wanted.as_bytes())
+        );
     }
     Ok(())
 }
@@ -104,7 +113,10 @@ fn meets_that_are_too_large(rt: HostRuntime) -> Result<(), Fail> {
         large = pair(alloc, &large, &large)?;
     }
     let types = [pair(alloc, &large, &any)?, pair(alloc, &any, &large)?];
-    let wanted = Refusal { place: Place { line: 1, column: 1 }, reason: Reason::TypeTooLarge };
+    let wanted = Refusal {
+        place: Place { line: 1, column: 1 },
+        reason: Reason::TypeTooLarge,
+    };
     let fault = match close(alloc, &types) {
         Ok(_) => LoadFault::Memory,
         Err(fault) => fault,
