@@ -155,7 +155,7 @@ fn report(rt: &HostRuntime, case: &Case) -> io::Result<()> {
         return println!(rt; "{name}: no such limits");
     };
     match load(alloc, bytes) {
-        Ok(script) => report_script(rt, &script, settings, case),
+        Ok(accepted) => report_script(rt, &accepted.script, settings, case),
         Err(LoadFault::Refused(_)) => println!(rt; "{name}: refused"),
         Err(LoadFault::Memory) => println!(rt; "{name}: no memory"),
     }
