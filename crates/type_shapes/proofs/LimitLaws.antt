@@ -13,7 +13,7 @@ use Rattle.mono_syntax.specs.declared.refusal.LoadFault.TheVariants.{Memory}
 use Rattle.mono_tree.specs.ClosedList.{put, put_all}
 use Rattle.mono_tree.specs.Sizes.{IsTooLarge}
 use Rattle.mono_tree.proofs.ClosedPuts.{only_in, IsBeginning, begins-put_all, get_longer, put_two}
-use Rattle.type_shapes.specs.Limits.{IsWithinLimits, IsAtFault, IsFirstFault, IsFault, refused}
+use Rattle.type_shapes.specs.Limits.{most_types, IsWithinLimits, IsAtFault, IsFirstFault, IsFault, refused}
 
 -- ---- beginnings
 
@@ -61,7 +61,7 @@ put_new l t n = ap (λ (b : Bool). cond b l (l ++ t ∷ [])) n
 put_old : (l : List Ty) (t : Ty) → list_any (ty_eq t) l ≡ true → put l t ≡ l
 put_old l t n = ap (λ (b : Bool). cond b l (l ++ t ∷ [])) n
 
-pushed_fault : (l : List Ty) (t : Ty) (r : Reason) → IsWithinLimits l → IsAtFault (length l) t r → IsFirstFault (l ++ t ∷ []) r
+pub pushed_fault : (l : List Ty) (t : Ty) (r : Reason) → IsWithinLimits l → IsAtFault (length l) t r → IsFirstFault (l ++ t ∷ []) r
 pushed_fault l t r w f = record {
   at = length l;
   member = t;
@@ -115,3 +115,10 @@ no_fault l r w f = elim f.reason [
 pub only_memory : (l : List Ty) (e : LoadFault) → IsWithinLimits l → IsFault l e → e ≡ Memory
 only_memory l e w (inl m) = m
 only_memory l e w (inr f) = absurd (no_fault l f.0 w f.1)
+
+-- a place that has a type
+pub within_limits : (l : List Ty) (k : ℕ) (t : Ty) → IsWithinLimits l → slice_get l k ≡ Some t → k < most_types
+within_limits l k t w e =
+    let few : length l ≤ 4095 = w.few in
+    let in_it : k < length l = slice_get_within l k t e in
+    omega arith

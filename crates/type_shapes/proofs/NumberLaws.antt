@@ -1,6 +1,6 @@
 -- A shape and its number after an insertion.
 use Rattle.std.proofs.Common.{◌≡◌, ℕ, Bool, true, false, not, List, [], ◌∷◌, ◌++◌, refl, sym, ◌∙◌, ap, subst, cond}
-use Rattle.std.specs.Prelude.{Some, slice_get}
+use Rattle.std.specs.Prelude.{Some, slice_get, option_and_then}
 use Rattle.std.specs.List.{list_any}
 use Rattle.mono_syntax.specs.Ty.{Ty}
 use Rattle.type_shapes.specs.declared.shape.Shape.{Shape}
@@ -11,7 +11,8 @@ use Rattle.mono_tree.specs.ClosedList.{put}
 use Rattle.type_shapes.specs.Numbered.{IsNumbered}
 use Rattle.mono_tree.proofs.ClosedPuts.{begins-put}
 use Rattle.type_shapes.proofs.Going.{shows_longer, number_shows}
-use Rattle.type_shapes.proofs.Pushes.{numbered_put}
+use Rattle.type_shapes.proofs.Pushes.{numbered_put, typed_is}
+use Rattle.type_shapes.specs.computed.MadeTypes.{typed, type_at}
 
 pub record Inserted (ss ss' : List Shape) (s : Shape) (x : Bool) (n : ℕ) : Type 0 where
   pub added : x ≡ not (list_any (shape_eq s) ss)
@@ -56,3 +57,6 @@ module _ (names : List (List (List ℕ))) (ts : List Ty) (ss : List Shape) (is :
 
   pub number_new : (ss' : List Shape) (s : Shape) (x : Bool) (n : ℕ) → Inserted ss ss' s x n → x ≡ true → (m : Ty) → Shows names ts s m → slice_get (put ts m) n ≡ Some m
   number_new ss' s x n h e m p = number_shows names (put ts m) ss' (numbered_new ss' s x n h e m p) n s m (shape_new ss' s x n h) (shows_longer names ts (put ts m) (begins-put ts m) s m p)
+
+  pub newest_type : (ss' : List Shape) (s : Shape) (x : Bool) (n : ℕ) → Inserted ss ss' s x n → (m : Ty) → Shows names ts s m → type_at names ts ss' n ≡ Some m
+  newest_type ss' s x n h m p = ap (option_and_then (typed names ts)) (shape_new ss' s x n h) ∙ typed_is names ts s m p

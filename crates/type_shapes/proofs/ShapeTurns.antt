@@ -1,12 +1,17 @@
 -- Numbers of types, found one by one.
-use Rattle.std.proofs.Common.{◌≡◌, ℕ, zero, suc, ◌+◌, ◌<◌, List, [], ◌∷◌, ◌++◌, length, refl, sym, ◌∙◌, ap, subst, arith, append_assoc, get_or, take, inl, inr}
+use Rattle.std.proofs.Common.{true, ◌≡◌, ℕ, zero, suc, ◌+◌, ◌<◌, List, [], ◌∷◌, ◌++◌, length, refl, sym, ◌∙◌, ap, subst, arith, append_assoc, get_or, take, inl, inr}
 use Rattle.std.specs.Prelude.{Some, slice_get, position, ◌⊎◌}
 use Rattle.std.proofs.lemmas.Option.{slice_get-get_or}
 use Rattle.std.proofs.lemmas.List.Quantifiers.{position-Some}
 use Rattle.mono_syntax.specs.declared.tree.Field as rust_field
-use Rattle.mono_syntax.specs.Ty.{Ty}
+use Rattle.mono_syntax.specs.Ty.{Ty, fun}
+use Rattle.std.specs.Prelude.{Contains}
+use Rattle.std.specs.List.{list_any}
+use Rattle.std.proofs.lemmas.Map.Views.{list_any-from_Contains}
+use Rattle.mono_tree.specs.ClosedList.{IsPart, IsAmong, IsOfField}
+use Rattle.mono_tree.proofs.ClosedPuts.{none_in, at_head}
 use Rattle.mono_syntax.specs.computed.TyEq.{ty_eq}
-use Rattle.mono_syntax.specs.TyEqLaws.{ty_eq-is}
+use Rattle.mono_syntax.specs.TyEqLaws.{ty_eq-is, ty_eq-laws}
 use Rattle.mono_syntax.specs.TyView.{fields, tys, tys_list}
 use Rattle.mono_tree.specs.FieldNames.{names_of}
 use Rattle.std.proofs.lemmas.Bool.{cases_lt}
@@ -18,6 +23,23 @@ pub place_of : (ts : List Ty) (t : Ty) (k : ℕ) → position (ty_eq t) ts ≡ S
 place_of ts t k e =
     let p = position-Some (ty_eq t) ts k t e in
     slice_get-get_or ts k t p.0 ∙ ap (λ (x : Ty). Some x) (sym (ty_eq-is t (get_or ts k t) p.1))
+
+pub place_there : (ts : List Ty) (t : Ty) → Contains ts t → list_any (ty_eq t) ts ≡ true
+place_there ts t c = list_any-from_Contains ty_eq-laws t ts c
+
+-- the type of a field is a part
+pub field_at : (xs : List rust_field.Field) (i : ℕ) (x : rust_field.Field) → i < length xs → x ≡ get_or xs i x → IsOfField x.ty (fields xs)
+field_at [] i x l e = absurd (omega arith)
+field_at (y ∷ xs) zero x l e = inl (ap (λ (z : rust_field.Field). z.ty) e)
+field_at (y ∷ xs) (suc i) x l e = inr (field_at xs i x (omega arith) e)
+
+-- what holds of the parts of a function holds of its result and its parameters
+pub fun_parts : (P : Ty → Type 0) (r : Ty) (ps : List Ty) → ((p : Ty) → IsPart p (fun (tys ps) r) → P p) → (t : Ty) → Contains (r ∷ ps) t → P t
+fun_parts P r ps h t c = elim (at_head r t ps c) [ inl e ↦ h t (inr e) | inr i ↦ h t (inl (among ps i)) ]
+  where
+    among : (ps : List Ty) → Contains ps t → IsAmong t (tys ps)
+    among [] i = absurd (none_in t i)
+    among (u ∷ ps) i = elim (at_head u t ps i) [ inl e ↦ inl e | inr j ↦ inr (among ps j) ]
 
 pub named_push : (ts : List Ty) (ns : List ℕ) (us : List Ty) (n : ℕ) (u : Ty) → AreNamed ts ns us → slice_get ts n ≡ Some u → AreNamed ts (ns ++ n ∷ []) (us ++ u ∷ [])
 named_push ts [] [] n u p e = (e, tt)

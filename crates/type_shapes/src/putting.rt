@@ -1,7 +1,8 @@
-ghost use Rattle.std.specs.Prelude.{◌≡◌, false, IfErr, OnOk};
+ghost use Rattle.std.specs.Prelude.{◌≡◌, Contains, false, IfErr, OnOk};
 ghost use Rattle.std.specs.List.{list_any};
 ghost use Rattle.mono_syntax.specs.computed.TyEq.{ty_eq};
-ghost use Rattle.mono_tree.specs.ClosedList.{put};
+ghost use Rattle.mono_syntax.specs.Ty.{Ty};
+ghost use Rattle.mono_tree.specs.ClosedList.{IsPart, put};
 ghost use Rattle.type_shapes.specs.Limits.{IsWithinLimits, refused, IsFault};
 ghost use Rattle.type_shapes.specs.Numbered.{IsNumbered};
 
@@ -53,6 +54,7 @@ fn put_new(
 ) -> Result<(), LoadFault>
     requires numbered { IsNumbered names.old.items set.old.keys shapes.old.keys }
     requires fine { IsWithinLimits set.old.keys }
+    requires parts { (p : Ty) → IsPart p ty.now → Contains set.old.keys p }
     requires absent { list_any (ty_eq ty.now) set.old.keys ≡ false }
     ensures numbered { OnOk result (IsNumbered names.new.items set.new.keys shapes.new.keys) }
     ensures keys { OnOk result (set.new.keys ≡ put set.old.keys ty.now) }
@@ -77,6 +79,7 @@ pub fn put_numbered(
 ) -> Result<(), LoadFault>
     requires numbered { IsNumbered names.old.items set.old.keys shapes.old.keys }
     requires fine { IsWithinLimits set.old.keys }
+    requires parts { (p : Ty) → IsPart p ty.now → Contains set.old.keys p }
     ensures numbered { OnOk result (IsNumbered names.new.items set.new.keys shapes.new.keys) }
     ensures keys { OnOk result (set.new.keys ≡ put set.old.keys ty.now) }
     ensures fine { OnOk result (IsWithinLimits set.new.keys) }

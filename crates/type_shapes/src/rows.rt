@@ -3,10 +3,10 @@ ghost use Rattle.mono_syntax.specs.Ty.{Ty};
 ghost use Rattle.type_shapes.specs.declared.shape.Shape.{Shape};
 ghost use Rattle.type_shapes.specs.Shows.{Shows, IsNamed, AreMeets};
 ghost use Rattle.mono_tree.specs.ClosedList.{put, with_row, first_types, IsClosedList};
-ghost use Rattle.type_shapes.specs.Limits.{IsWithinLimits, IsFault, IsRefusal};
+ghost use Rattle.type_shapes.specs.Limits.{most_types, IsWithinLimits, IsFault, IsRefusal};
 ghost use Rattle.mono_syntax.specs.declared.refusal.LoadFault.TheVariants.{Memory};
 ghost use Rattle.type_shapes.specs.Numbered.{IsNumbered, IsRow};
-ghost use Rattle.type_shapes.specs.computed.MadeTypes.{typed};
+ghost use Rattle.type_shapes.specs.computed.MadeTypes.{typed, type_at};
 ghost use Rattle.type_shapes.specs.computed.PairMeets.{is_dyn, met_of, pair_meet, pair_list};
 
 use crate::made::made_type;
@@ -62,15 +62,12 @@ fn met_of(
     }
 }
 
-fn small(at: usize) -> Result<u16, LoadFault>
-    ensures ok { IfOk result (λ n. n ≡ at) }
-    ensures err { IfErr result (λ e. e ≡ Memory) }
+/// A place as a number of a type.
+fn small(at: usize) -> u16
+    requires { at < most_types }
+    ensures { result ≡ at }
 {
-    // There are never as many.
-    match u16::try_from(at) {
-        Ok(n) => Ok(n),
-        Err(_) => Err(LoadFault::Memory),
-    }
+    at as u16
 }
 
 /// The type of a shape goes to the end of the list, unless it is there already.
@@ -80,16 +77,14 @@ fn add_type(
     set: &mut IndexSet<Ty>,
     shape: &Shape,
 ) -> Result<(), LoadFault>
-    requires { IsWithinLimits set.old.keys }
+    requires fine { IsWithinLimits set.old.keys }
+    requires typed { (m : Ty) × (typed names.now set.old.keys shape.now ≡ Some m) }
     ensures keys { OnOk result ((m : Ty) → typed names.now set.old.keys shape.now ≡ Some m → set.new.keys ≡ put set.old.keys m) }
     ensures fine { OnOk result (IsWithinLimits set.new.keys) }
     ensures fault { IfErr result (λ e. (m : Ty) → typed names.now set.old.keys shape.now ≡ Some m → IsFault (put set.old.keys m) e) }
 {
     let made = made_type(alloc, names, set, shape)?;
-    let Some(ty) = made else {
-        return Err(LoadFault::Memory);
-    };
-    put(set, ty)
+    put(set, made.unwrap())
 }
 
 /// The type of the shape at a place, which has just been put there.
@@ -100,14 +95,13 @@ fn add_newest(
     shapes: &IndexSet<Shape>,
     at: usize,
 ) -> Result<(), LoadFault>
-    requires { IsWithinLimits set.old.keys }
-    ensures keys { OnOk result ((s : Shape) (m : Ty) → slice_get shapes.now.keys at ≡ Some s → typed names.now set.old.keys s ≡ Some m → set.new.keys ≡ put set.old.keys m) }
+    requires fine { IsWithinLimits set.old.keys }
+    requires typed { (m : Ty) × (type_at names.now set.old.keys shapes.now.keys at ≡ Some m) }
+    ensures keys { OnOk result ((m : Ty) → type_at names.now set.old.keys shapes.now.keys at ≡ Some m → set.new.keys ≡ put set.old.keys m) }
     ensures fine { OnOk result (IsWithinLimits set.new.keys) }
-    ensures fault { IfErr result (λ e. (s : Shape) (m : Ty) → slice_get shapes.now.keys at ≡ Some s → typed names.now set.old.keys s ≡ Some m → IsFault (put set.old.keys m) e) }
+    ensures fault { IfErr result (λ e. (m : Ty) → type_at names.now set.old.keys shapes.now.keys at ≡ Some m → IsFault (put set.old.keys m) e) }
 {
-    let Some(shape) = shapes.get_index(at) else {
-        return Err(LoadFault::Memory);
-    };
+    let shape = shapes.get_index(at).unwrap();
     add_type(alloc, names, set, shape)
 }
 
@@ -130,18 +124,10 @@ fn number(
 {
     let (at, is_new) = shapes.insert_full(shape)?;
     if !is_new {
-        return small(at);
+        return Ok(small(at));
     }
     add_newest(alloc, names, set, shapes, at)?;
-    small(at)
-}
-
-fn number_at(at: usize) -> Result<Option<u16>, LoadFault>
-    ensures ok { IfOk result (λ n. n ≡ Some at) }
-    ensures err { IfErr result (λ e. e ≡ Memory) }
-{
-    let n = small(at)?;
-    Ok(Some(n))
+    Ok(small(at))
 }
 
 fn number_of_new(
@@ -187,7 +173,7 @@ fn pair(
 {
     let met = met_of(alloc, shapes, rows, j, i)?;
     match met {
-        Met::At(n) => number_at(n),
+        Met::At(n) => Ok(Some(small(n))),
         Met::New(shape) => number_of_new(alloc, names, set, shapes, shape),
         Met::Apart => Ok(None),
     }

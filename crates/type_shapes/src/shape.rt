@@ -1,10 +1,10 @@
-ghost use Rattle.std.specs.Prelude.{◌≡◌};
-ghost use Rattle.type_shapes.specs.computed.ShapeEq.{head_eq, head_number};
+ghost use Rattle.std.specs.Prelude.{◌≡◌, fold};
+ghost use Rattle.type_shapes.specs.computed.ShapeEq.{head_eq, head_fed};
 
 use sqlite_items::Items;
 use std::hash::{Hash, Hasher};
 
-/// What a type is but for its parts. An object's field names are told by a number.
+/// What a type is but for its parts. The number of an object is that of its field names, in a list of such lists.
 #[derive(Clone, Copy)]
 pub enum Head {
     Dyn,
@@ -13,7 +13,7 @@ pub enum Head {
     Str,
     Nil,
     Fun,
-    Obj(u16),
+    Obj(usize),
 }
 
 /// A type by the numbers of its parts: a function's result comes first, and then its parameters.
@@ -66,22 +66,24 @@ impl Hash for Shape {
     ghost respects_eq = { shape_fed-alike };
 
     fn hash<H: Hasher>(&self, state: &mut H) {
-        let kind = head_number(self.head);
-        kind.hash(state);
+        feed_head(self.head, state);
         self.parts.as_slice().hash(state);
     }
 }
 
-fn head_number(head: Head) -> u32
-    ensures { result ≡ head_number head }
+fn feed_head<H: Hasher>(head: Head, state: &mut H)
+    ensures { state.new ≡ fold H.write state.old (head_fed head) }
 {
     match head {
-        Head::Dyn => 0,
-        Head::Int => 1,
-        Head::Bool => 2,
-        Head::Str => 3,
-        Head::Nil => 4,
-        Head::Fun => 5,
-        Head::Obj(n) => n as u32 + 6,
+        Head::Dyn => state.write_u8(0),
+        Head::Int => state.write_u8(1),
+        Head::Bool => state.write_u8(2),
+        Head::Str => state.write_u8(3),
+        Head::Nil => state.write_u8(4),
+        Head::Fun => state.write_u8(5),
+        Head::Obj(group) => {
+            state.write_u8(6);
+            state.write_usize(group);
+        }
     }
 }

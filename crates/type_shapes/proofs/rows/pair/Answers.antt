@@ -6,6 +6,7 @@ use Rattle.type_shapes.specs.declared.rows.Met.TheVariants.{At, New, Apart}
 use Rattle.type_shapes.specs.Limits.{IsFault}
 use Rattle.type_shapes.specs.computed.PairMeets.{pair_meet}
 use Rattle.type_shapes.proofs.RowLaws.{on_ok, ok_from, if_ok, if_err, Means, met_means, list_at, list_new, list_apart}
+use Rattle.type_shapes.proofs.LimitLaws.{within_limits}
 use Rattle.type_shapes.proofs.rows.pair.Goals as goal
 
 pub number_of_new-requires-clause-shown : goal.number_of_new-requires-clause-shown
@@ -13,15 +14,20 @@ number_of_new-requires-clause-shown c =
     let w : Means c.args.names.now c.args.set.now.keys (pair_meet (slice_get c.args.set.now.keys c.args.j) (slice_get c.args.set.now.keys c.args.i)) (New c.in-New.shape) = subst (Means c.args.names.now c.args.set.now.keys (pair_meet (slice_get c.args.set.now.keys c.args.j) (slice_get c.args.set.now.keys c.args.i))) (sym c.in_ok-met.ensures ∙ c.in-New.is) (met_means c.args.names.now c.args.set.now.keys c.args.shapes.now.keys c.requires.numbered c.args.rows.now c.args.i c.requires.right c.args.j c.requires.order c.requires.inside) in
     (w.0, w.2)
 
+pub small-requires : goal.small-requires
+small-requires c =
+    let w : Means c.args.names.now c.args.set.now.keys (pair_meet (slice_get c.args.set.now.keys c.args.j) (slice_get c.args.set.now.keys c.args.i)) (At c.in-At.n) = subst (Means c.args.names.now c.args.set.now.keys (pair_meet (slice_get c.args.set.now.keys c.args.j) (slice_get c.args.set.now.keys c.args.i))) (sym c.in_ok-met.ensures ∙ c.in-At.is) (met_means c.args.names.now c.args.set.now.keys c.args.shapes.now.keys c.requires.numbered c.args.rows.now c.args.i c.requires.right c.args.j c.requires.order c.requires.inside) in
+    within_limits c.args.set.now.keys c.in-At.n w.0 c.requires.fine w.2
+
 pub returns-in-At-clause-keys : goal.returns-in-At-clause-keys
 returns-in-At-clause-keys c =
     let w : Means c.args.names.now c.args.set.now.keys (pair_meet (slice_get c.args.set.now.keys c.args.j) (slice_get c.args.set.now.keys c.args.i)) (At c.in-At.n) = subst (Means c.args.names.now c.args.set.now.keys (pair_meet (slice_get c.args.set.now.keys c.args.j) (slice_get c.args.set.now.keys c.args.i))) (sym c.in_ok-met.ensures ∙ c.in-At.is) (met_means c.args.names.now c.args.set.now.keys c.args.shapes.now.keys c.requires.numbered c.args.rows.now c.args.i c.requires.right c.args.j c.requires.order c.requires.inside) in
-    on_ok c.number_at.result (sym (list_at c.args.names.now c.args.set.now.keys c.args.shapes.now.keys c.requires.numbered c.args.rows.now c.args.i c.requires.right c.args.j c.in-At.n w.0 w.1 w.2))
+    sym (list_at c.args.names.now c.args.set.now.keys c.args.shapes.now.keys c.requires.numbered c.args.rows.now c.args.i c.requires.right c.args.j c.in-At.n w.0 w.1 w.2)
 
 pub returns-in-At-clause-named : goal.returns-in-At-clause-named
 returns-in-At-clause-named c =
     let w : Means c.args.names.now c.args.set.now.keys (pair_meet (slice_get c.args.set.now.keys c.args.j) (slice_get c.args.set.now.keys c.args.i)) (At c.in-At.n) = subst (Means c.args.names.now c.args.set.now.keys (pair_meet (slice_get c.args.set.now.keys c.args.j) (slice_get c.args.set.now.keys c.args.i))) (sym c.in_ok-met.ensures ∙ c.in-At.is) (met_means c.args.names.now c.args.set.now.keys c.args.shapes.now.keys c.requires.numbered c.args.rows.now c.args.i c.requires.right c.args.j c.requires.order c.requires.inside) in
-    if_ok c.number_at.result c.number_at.ensures.ok (λ x h. subst (λ (q : Option ℕ). IsNamed c.args.set.now.keys q (pair_meet (slice_get c.args.set.now.keys c.args.j) (slice_get c.args.set.now.keys c.args.i))) (sym h) (subst (λ (q : Option Ty). IsNamed c.args.set.now.keys (Some c.in-At.n) q) (sym w.1) w.2))
+    subst (λ (k : ℕ). IsNamed c.args.set.now.keys (Some k) (pair_meet (slice_get c.args.set.now.keys c.args.j) (slice_get c.args.set.now.keys c.args.i))) (sym c.small.ensures) (subst (λ (q : Option Ty). IsNamed c.args.set.now.keys (Some c.in-At.n) q) (sym w.1) w.2)
 
 pub returns-in-New-clause-keys : goal.returns-in-New-clause-keys
 returns-in-New-clause-keys c =

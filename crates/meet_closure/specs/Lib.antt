@@ -1,0 +1,1 @@
+-- Rules: the closed list stands in `mono_tree`, its limits in `type_shapes`.
