@@ -1,30 +1,40 @@
 -- How a table is made: type after type, and class after class.
-use Rattle.std.proofs.Common.{◌≡◌, ◌<◌, ℕ, zero, suc, ◌+◌, Bool, true, false, List, [], ◌∷◌, ◌++◌, length, take, drop, get_or, refl, sym, ◌∙◌, ap, subst, arith, inl, inr, cond}
-use Rattle.std.specs.Prelude.{Option, slice_get, Contains, map, IsTrue, ◌↔◌}
+use Rattle.std.proofs.Common.{◌≡◌, ◌<◌, ℕ, zero, suc, ◌+◌, Bool, true, false, List, [], ◌∷◌, ◌++◌, length, take, get_or, refl, sym, ◌∙◌, ap, subst, arith, cond}
+use Rattle.std.specs.Prelude.{Option, Some, slice_get, Contains, map, IsTrue, ◌↔◌}
 use Rattle.std.specs.List.{list_any}
 use Rattle.std.proofs.lemmas.List.{take_more, map_more}
-use Rattle.std.proofs.lemmas.List.Elements.{Contains-append_cases}
+use Rattle.std.proofs.lemmas.Option.{slice_get-get_or}
+use Rattle.mono_list.proofs.Cases.{some_is, none_some}
 use Rattle.mono_syntax.specs.Ty.{Ty}
 use Rattle.mono_syntax.specs.computed.TyEq.{ty_eq}
 use Rattle.mono_syntax.specs.declared.value.TypeNo.{TypeNo}
-use Rattle.mono_tree.specs.ClosedList.{AreDistinct, put, put_all}
+use Rattle.mono_tree.specs.ClosedList.{AreDistinct, IsOrdered, IsPart, put}
 use Rattle.mono_tree.specs.Static.{IsStatic, is_static}
 use Rattle.mono_tree.proofs.AsComputed.{is_is_static}
 use Rattle.mono_tree.specs.TypeNumbers.{Names}
-use Rattle.mono_tree.proofs.ClosedPuts.{none_in, only_in, first_in, in_rest, is_there}
+use Rattle.mono_tree.proofs.ClosedPuts.{none_in, first_in, in_rest, is_there}
+use Rattle.mono_tree.proofs.ClosedMembers.{in_get}
+use Rattle.type_shapes.proofs.Going.{once_of}
 use Rattle.type_shapes.specs.Limits.{IsWithinLimits}
 use Rattle.type_shapes.specs.Numbered.{IsNumbered}
 use Rattle.type_numbers.specs.Kept.{AreInRange, or_dyn, types_at}
 
 -- ---- types that stand once, put one after another
 
-nothing_behind : (us : List Ty) → us ++ [] ≡ us
-nothing_behind [] = refl
-nothing_behind (v ∷ us) = ap (λ (l : List Ty). v ∷ l) (nothing_behind us)
+got_taken : (n : ℕ) (ts : List Ty) (k : ℕ) (t : Ty) → slice_get (take n ts) k ≡ Some t → (k < n) × (slice_get ts k ≡ Some t)
+got_taken zero ts k t e = none_some ((k < 0) × (slice_get ts k ≡ Some t)) e
+got_taken (suc n) [] k t e = none_some ((k < suc n) × (slice_get [] k ≡ Some t)) e
+got_taken (suc n) (u ∷ ts) zero t e = (omega arith, e)
+got_taken (suc n) (u ∷ ts) (suc k) t e =
+    let (l, f) = got_taken n ts k t e in
+    let l' : k < n = l in
+    (omega arith, f)
 
-one_behind : (s : List Ty) (u : Ty) (l : List Ty) → (s ++ u ∷ []) ++ l ≡ s ++ u ∷ l
-one_behind [] u l = refl
-one_behind (v ∷ s) u l = ap (λ (x : List Ty). v ∷ x) (one_behind s u l)
+has_taken : (n : ℕ) (ts : List Ty) (k : ℕ) (t : Ty) → k < n → slice_get ts k ≡ Some t → Contains (take n ts) t
+has_taken zero ts k t l e = absurd (omega arith)
+has_taken (suc n) [] k t l e = none_some (Contains (take (suc n) []) t) e
+has_taken (suc n) (u ∷ ts) zero t l e = subst (λ (x : Ty). Contains (u ∷ take n ts) x) (some_is e) (first_in u (take n ts))
+has_taken (suc n) (u ∷ ts) (suc k) t l e = in_rest u t (take n ts) (has_taken n ts k t (omega arith) e)
 
 put_new : (s : List Ty) (u : Ty) → (Contains s u → ⊥) → put s u ≡ s ++ u ∷ []
 put_new s u h = by (list_any (ty_eq u) s) refl
@@ -33,28 +43,28 @@ put_new s u h = by (list_any (ty_eq u) s) refl
     by true e = absurd (h (is_there s u e))
     by false e = ap (λ (z : Bool). cond z s (s ++ u ∷ [])) e
 
-all_new : (s l : List Ty) → ((u : Ty) → Contains l u → Contains s u → ⊥) → AreDistinct l → put_all s l ≡ s ++ l
-all_new s [] h d = sym (nothing_behind s)
-all_new s (u ∷ l) h d =
-    ap (λ (x : List Ty). put_all x l) (put_new s u (h u (first_in u l)))
-    ∙ all_new (s ++ u ∷ []) l (λ v c i. elim (Contains-append_cases s (u ∷ []) v i) [
-      | inl j ↦ h v (in_rest u v l c) j
-      | inr j ↦ d.0 (subst (λ (x : Ty). Contains l x) (only_in u v j) c)
-    ]) d.1
-    ∙ one_behind s u l
+module _ (ts s : List Ty) (i : ℕ) (x : Ty) (l : i < length ts) (g : x ≡ get_or ts i x) (same : s ≡ take i ts) where
+  here : slice_get ts i ≡ Some x
+  here = slice_get-get_or ts i x l ∙ ap (λ (z : Ty). Some z) (sym g)
 
-pub all_once : (s l : List Ty) → s ≡ [] → AreDistinct l → put_all s l ≡ l
-all_once s l e d = ap (λ (x : List Ty). put_all x l) e ∙ all_new [] l (λ u c i. none_in u i) d
+  absent : AreDistinct ts → Contains (take i ts) x → ⊥
+  absent d c =
+      let (k, e) = in_get (take i ts) x c in
+      let (below, f) = got_taken i ts k x e in
+      let k_is : k ≡ i = once_of ts d k i x f here in
+      absurd (omega arith)
 
-put_first : (s xs : List Ty) (i : ℕ) (x : Ty) (target : List Ty) → i < length xs → x ≡ get_or xs i x → put_all s (drop i xs) ≡ target → put_all (put s x) (drop (suc i) xs) ≡ target
-put_first s [] i x target l g same = absurd (omega arith)
-put_first s (y ∷ xs) zero x target l g same = ap (λ (z : Ty). put_all (put s z) xs) g ∙ same
-put_first s (y ∷ xs) (suc i) x target l g same = put_first s xs i x target (omega arith) g same
+  pub put_turn : AreDistinct ts → put s x ≡ take (i + 1) ts
+  put_turn d =
+      ap (λ (z : List Ty). put z x) same
+      ∙ put_new (take i ts) x (absent d)
+      ∙ ap (λ (z : Ty). take i ts ++ z ∷ []) g
+      ∙ sym (take_more ts i x l)
 
-pub put_turn : (s xs : List Ty) (i : ℕ) (x : Ty) (target : List Ty) → i < length xs → x ≡ get_or xs i x → put_all s (drop i xs) ≡ target → put_all (put s x) (drop (i + 1) xs) ≡ target
-put_turn s xs i x target l g same =
-    let k : suc i ≡ i + 1 = omega arith in
-    subst (λ (n : ℕ). put_all (put s x) (drop n xs) ≡ target) k (put_first s xs i x target l g same)
+  pub parts_put : IsOrdered ts → (p : Ty) → IsPart p x → Contains s p
+  parts_put o p h =
+      let (j, below, e) = o.before i x p here h in
+      subst (λ (z : List Ty). Contains z p) (sym same) (has_taken i ts j p below e)
 
 pub nothing_numbered : IsNumbered [] [] []
 nothing_numbered = record {

@@ -45,7 +45,7 @@ pub fn names_in(names: &[Items<Name>], head: Head) -> &[Name]
     ensures { result.now ≡ names_by names.now head }
 {
     match head {
-        Head::Obj(group) => match names.get(group as usize) {
+        Head::Obj(group) => match names.get(group) {
             Some(list) => list.as_slice(),
             None => &[],
         },

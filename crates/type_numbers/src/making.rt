@@ -1,6 +1,6 @@
 ghost use Rattle.std.specs.Prelude.{◌≡◌, ◌≤◌, ◌<◌, List, [], map, IfOk, IfErr, length, Contains};
 ghost use Rattle.mono_syntax.specs.Ty.{Ty};
-ghost use Rattle.mono_tree.specs.ClosedList.{IsClosedList, AreDistinct};
+ghost use Rattle.mono_tree.specs.ClosedList.{IsClosedList, AreDistinct, IsOrdered};
 ghost use Rattle.mono_tree.specs.Static.{is_static};
 ghost use Rattle.mono_tree.specs.TypeNumbers.{Names};
 ghost use Rattle.type_shapes.specs.Limits.{IsWithinLimits};
@@ -35,6 +35,7 @@ pub struct ClosedTypes {
 /// The types of a list, each with its shape.
 pub fn with_shapes(alloc: Global, types: &[Ty]) -> Result<ShapedTypes, LoadFault>
     requires distinct { AreDistinct types.now }
+    requires ordered { IsOrdered types.now }
     requires within { IsWithinLimits types.now }
     ensures types { IfOk result (λ n. n.set.keys ≡ types.now) }
     ensures numbered { IfOk result (λ n. IsNumbered n.names.items n.set.keys n.shapes.keys) }

@@ -1,7 +1,8 @@
 use Rattle.std.proofs.Common.{◌≡◌, ◌∙◌, List, sym, subst}
 use Rattle.mono_syntax.specs.Ty.{Ty}
-use Rattle.mono_tree.specs.ClosedList.{AreDistinct, with_row}
+use Rattle.mono_tree.specs.ClosedList.{AreDistinct, IsOrdered, with_row}
 use Rattle.mono_tree.proofs.ClosedMembers.{rows_distinct}
+use Rattle.mono_tree.proofs.ClosedOrder.{ordered_rows}
 use Rattle.mono_tree.proofs.ClosedStill.{still}
 use Rattle.type_numbers.proofs.making.closed_types.Goals as goal
 
@@ -9,6 +10,11 @@ pub with_shapes-requires-clause-distinct : goal.with_shapes-requires-clause-dist
 with_shapes-requires-clause-distinct c =
     let (given, p) = c.requires.closed in
     subst AreDistinct p.made (rows_distinct given p.rows)
+
+pub with_shapes-requires-clause-ordered : goal.with_shapes-requires-clause-ordered
+with_shapes-requires-clause-ordered c =
+    let (given, p) = c.requires.closed in
+    subst IsOrdered p.made (ordered_rows given p.rows)
 
 pub returns-clause-types : goal.returns-clause-types
 returns-clause-types c =
