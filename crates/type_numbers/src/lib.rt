@@ -7,3 +7,6 @@ mod making;
 mod table;
 
 pub use table::TypeTable;
+
+#[cfg(test)]
+mod tests;
