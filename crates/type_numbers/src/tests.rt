@@ -1,4 +1,4 @@
-ghost use Rattle.std.specs.Prelude.{◌≡◌, IfOk, IfSome};
+ghost use Rattle.std.specs.Prelude.{◌≡◌, IfOk};
 ghost use Rattle.mono_tree.specs.TypeNumbers.{IsInRange};
 
 use crate::TypeTable;
@@ -46,25 +46,27 @@ fn build(alloc: Global, steps: &str) -> Result<Ty, AllocError> {
     Ok(Ty { kind })
 }
 
-/// The table of the closed list of the classes' types.
-fn table_of(alloc: Global, classes: &[Ty]) -> Result<Option<TypeTable>, AllocError>
-    ensures { IfOk result (λ made. IfSome made (λ table. table.classes ≡ classes.now)) }
+/// The table of the closed list of the classes' types. A refusal counts as an error.
+fn table_of(alloc: Global, classes: &[Ty]) -> Result<TypeTable, AllocError>
+    ensures { IfOk result (λ table. table.classes ≡ classes.now) }
 {
     match close(alloc, classes) {
-        Ok(closed) => Ok(Some(TypeTable::new(alloc, closed, classes)?)),
-        Err(_) => Ok(None),
+        Ok(closed) => TypeTable::new(alloc, closed, classes),
+        Err(_) => Err(AllocError),
     }
 }
 
-/// The number of the type that the steps make.
-fn number(alloc: Global, table: &TypeTable, steps: &str) -> Result<Option<TypeNo>, AllocError>
-    ensures { IfOk result (λ n. IfSome n (IsInRange table.now.types)) }
+/// The number of the type that the steps make. That there is none counts as an error.
+fn number(alloc: Global, table: &TypeTable, steps: &str) -> Result<TypeNo, AllocError>
+    ensures { IfOk result (IsInRange table.now.types) }
 {
-    let ty = build(alloc, steps)?;
-    Ok(table.number_of(&ty))
+    match table.number_of(&build(alloc, steps)?) {
+        Some(n) => Ok(n),
+        None => Err(AllocError),
+    }
 }
 
-/// Types that two rows of a test share: the classes, whose types are 5 to 9 in the list. Their meets are 10 and 11.
+/// The types of the classes: numbers 5 to 9 of their closed list. Their meets are 10 and 11.
 fn classes(alloc: Global) -> Result<[Ty; 5], AllocError> {
     Ok([
         build(alloc, "ixDyo")?,
@@ -89,9 +91,7 @@ fn number_or_none(n: Option<TypeNo>) -> u32 {
 #[test]
 fn types(rt: HostRuntime) -> Result<(), Fail> {
     let alloc = rt.alloc();
-    let Some(table) = table_of(alloc, &classes(alloc)?)? else {
-        panic!(rt; "refused");
-    };
+    let table = table_of(alloc, &classes(alloc)?)?;
     let rows = [
         ("D", 0, "Dyn", false),
         ("i", 1, "int", true),
@@ -113,15 +113,13 @@ fn types(rt: HostRuntime) -> Result<(), Fail> {
         ),
     ];
     for (steps, wanted, text, is_static) in rows {
-        let Some(n) = number(alloc, &table, steps)? else {
-            panic!(rt; "no number of {text}");
-        };
+        let n = number(alloc, &table, steps)?;
         assert_eq!(rt; n.0, wanted);
         let bytes = type_bytes(alloc, table.ty(n))?;
         assert!(rt; bytes.as_slice() == text.as_bytes());
         assert_eq!(rt; table.is_static_no(n), is_static);
     }
-    assert!(rt; number(alloc, &table, "iyo")?.is_none());
+    assert!(rt; table.number_of(&build(alloc, "iyo")?).is_none());
     Ok(())
 }
 
@@ -129,9 +127,7 @@ fn types(rt: HostRuntime) -> Result<(), Fail> {
 #[test]
 fn meets(rt: HostRuntime) -> Result<(), Fail> {
     let alloc = rt.alloc();
-    let Some(table) = table_of(alloc, &classes(alloc)?)? else {
-        panic!(rt; "refused");
-    };
+    let table = table_of(alloc, &classes(alloc)?)?;
     let rows = [
         ("ixDyo", "Dxsyo", 10, false),
         ("ipixDyopDf", "DpDxsyopbf", 11, false),
@@ -146,12 +142,8 @@ fn meets(rt: HostRuntime) -> Result<(), Fail> {
         ("b", "b", 2, true),
     ];
     for (left, right, met, is_precise) in rows {
-        let Some(a) = number(alloc, &table, left)? else {
-            panic!(rt; "no number of {left}");
-        };
-        let Some(b) = number(alloc, &table, right)? else {
-            panic!(rt; "no number of {right}");
-        };
+        let a = number(alloc, &table, left)?;
+        let b = number(alloc, &table, right)?;
         assert_eq!(rt; number_or_none(table.meet_no(a, b)), met);
         assert_eq!(rt; table.precise_no(a, b), is_precise);
     }
@@ -162,9 +154,7 @@ fn meets(rt: HostRuntime) -> Result<(), Fail> {
 #[test]
 fn parts(rt: HostRuntime) -> Result<(), Fail> {
     let alloc = rt.alloc();
-    let Some(table) = table_of(alloc, &classes(alloc)?)? else {
-        panic!(rt; "refused");
-    };
+    let table = table_of(alloc, &classes(alloc)?)?;
     let rows = [
         ("ipixDyopDf", [1, 5, 0, NONE]),
         ("ipixsyopbf", [1, 10, 2, NONE]),
@@ -173,9 +163,7 @@ fn parts(rt: HostRuntime) -> Result<(), Fail> {
         ("i", [NONE, NONE, NONE, NONE]),
     ];
     for (steps, wanted) in rows {
-        let Some(n) = number(alloc, &table, steps)? else {
-            panic!(rt; "no number of {steps}");
-        };
+        let n = number(alloc, &table, steps)?;
         for (i, part) in wanted.iter().enumerate() {
             assert_eq!(rt; number_or_none(table.part(n, i as u32)), *part);
         }
@@ -194,12 +182,8 @@ fn place_or_none(place: Option<u32>) -> u32 {
 #[test]
 fn looks_of_classes(rt: HostRuntime) -> Result<(), Fail> {
     let alloc = rt.alloc();
-    let Some(table) = table_of(alloc, &classes(alloc)?)? else {
-        panic!(rt; "refused");
-    };
-    let Some(both) = number(alloc, &table, "ixsyo")? else {
-        panic!(rt; "no number of a meet");
-    };
+    let table = table_of(alloc, &classes(alloc)?)?;
+    let both = number(alloc, &table, "ixsyo")?;
     let rows = [
         (5, 0, 1, true),
         (6, 0, 1, true),
