@@ -7,3 +7,6 @@ mod closing;
 pub mod laws;
 
 pub use closing::close;
+
+#[cfg(test)]
+mod tests;

@@ -12,7 +12,7 @@ use Rattle.mono_syntax.specs.declared.refusal.LoadFault.{LoadFault}
 use Rattle.mono_syntax.specs.declared.refusal.LoadFault.TheVariants.{Memory}
 use Rattle.mono_tree.specs.ClosedList.{put, put_all}
 use Rattle.mono_tree.specs.Sizes.{IsTooLarge}
-use Rattle.mono_tree.proofs.ClosedPuts.{only_in, IsBeginning, begins-put_all, get_longer, put_two}
+use Rattle.mono_tree.proofs.ClosedPuts.{is_there, only_in, IsBeginning, begins-put_all, get_longer, put_two}
 use Rattle.type_shapes.specs.Limits.{most_types, IsWithinLimits, IsAtFault, IsFirstFault, IsFault, refused}
 
 -- ---- beginnings
@@ -122,3 +122,11 @@ within_limits l k t w e =
     let few : length l ≤ 4095 = w.few in
     let in_it : k < length l = slice_get_within l k t e in
     omega arith
+
+-- a type that isn't there and is too large
+pub large_absent : (l : List Ty) (t : Ty) → IsWithinLimits l → (Contains l t → ⊥) → IsTooLarge t → IsFault (put l t) (refused TypeTooLarge)
+large_absent l t w n y = by (list_any (ty_eq t) l) refl
+  where
+    by : (b : Bool) → list_any (ty_eq t) l ≡ b → IsFault (put l t) (refused TypeTooLarge)
+    by true e = absurd (n (is_there l t e))
+    by false e = large_put l t w e y

@@ -1,7 +1,8 @@
 -- A shape and its number after an insertion.
 use Rattle.std.proofs.Common.{◌≡◌, ℕ, Bool, true, false, not, List, [], ◌∷◌, ◌++◌, refl, sym, ◌∙◌, ap, subst, cond}
-use Rattle.std.specs.Prelude.{Some, slice_get, option_and_then}
+use Rattle.std.specs.Prelude.{Option, Some, slice_get, Contains}
 use Rattle.std.specs.List.{list_any}
+use Rattle.mono_list.proofs.Cases.{some_is}
 use Rattle.mono_syntax.specs.Ty.{Ty}
 use Rattle.type_shapes.specs.declared.shape.Shape.{Shape}
 use Rattle.type_shapes.specs.computed.ShapeEq.{shape_eq}
@@ -10,9 +11,8 @@ use Rattle.type_shapes.specs.Shows.{Shows}
 use Rattle.mono_tree.specs.ClosedList.{put}
 use Rattle.type_shapes.specs.Numbered.{IsNumbered}
 use Rattle.mono_tree.proofs.ClosedPuts.{begins-put}
-use Rattle.type_shapes.proofs.Going.{shows_longer, number_shows}
-use Rattle.type_shapes.proofs.Pushes.{numbered_put, typed_is}
-use Rattle.type_shapes.specs.computed.MadeTypes.{typed, type_at}
+use Rattle.type_shapes.proofs.Going.{new_shape, shows_longer, number_shows}
+use Rattle.type_shapes.proofs.Pushes.{numbered_put}
 
 pub record Inserted (ss ss' : List Shape) (s : Shape) (x : Bool) (n : ℕ) : Type 0 where
   pub added : x ≡ not (list_any (shape_eq s) ss)
@@ -58,5 +58,10 @@ module _ (names : List (List (List ℕ))) (ts : List Ty) (ss : List Shape) (is :
   pub number_new : (ss' : List Shape) (s : Shape) (x : Bool) (n : ℕ) → Inserted ss ss' s x n → x ≡ true → (m : Ty) → Shows names ts s m → slice_get (put ts m) n ≡ Some m
   number_new ss' s x n h e m p = number_shows names (put ts m) ss' (numbered_new ss' s x n h e m p) n s m (shape_new ss' s x n h) (shows_longer names ts (put ts m) (begins-put ts m) s m p)
 
-  pub newest_type : (ss' : List Shape) (s : Shape) (x : Bool) (n : ℕ) → Inserted ss ss' s x n → (m : Ty) → Shows names ts s m → type_at names ts ss' n ≡ Some m
-  newest_type ss' s x n h m p = ap (option_and_then (typed names ts)) (shape_new ss' s x n h) ∙ typed_is names ts s m p
+  -- the type of a new shape isn't there yet
+  pub absent_new : (ss' : List Shape) (s : Shape) (x : Bool) (n : ℕ) → Inserted ss ss' s x n → x ≡ true → (m : Ty) → Shows names ts s m → Contains ts m → ⊥
+  absent_new ss' s x n h e m p = new_shape names ts ss is s m (was_absent x (list_any (shape_eq s) ss) h.added e) p
+
+  -- the shape that was found at its place
+  pub found_new : (ss' : List Shape) (s : Shape) (x : Bool) (n : ℕ) → Inserted ss ss' s x n → (o : Option Shape) (k : Shape) → o ≡ slice_get ss' n → o ≡ Some k → k ≡ s
+  found_new ss' s x n h o k e f = some_is (sym f ∙ e ∙ shape_new ss' s x n h)

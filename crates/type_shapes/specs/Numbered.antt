@@ -25,7 +25,8 @@ pub record IsNumbered (names : List (List (List ℕ))) (ts : List Ty) (ss : List
 
 -- the first j numbers of the row of i are those of the meets
 pub record IsRow (ts : List Ty) (row : List (Option ℕ)) (i j : ℕ) : Type 0 where
-  pub at : (b : ℕ) → b < j → (x y : Ty) → slice_get ts i ≡ Some x → slice_get ts b ≡ Some y → IsNamed ts (flat (slice_get row b)) (meet_of y x)
+  pub at : (b : ℕ) → b < j → (x y : Ty) → slice_get ts i ≡ Some x → slice_get ts b ≡ Some y
+      → IsNamed ts (flat (slice_get row b)) (meet_of y x)
 
 -- what stands in the first list stands at its place in the second
 abbrev pub IsKept : {X : Type 0} → List X → List X → Type 0

@@ -45,7 +45,9 @@ shape_eq-same a b e = subst (λ (z : Shape). shape_eq a z ≡ true) e (shape_eq-
 pub shape_eq-laws : IsEquivalence shape_eq
 shape_eq-laws = record {
   refl = shape_eq-refl;
-  symm = λ a b. both_ways (shape_eq a b) (shape_eq b a) (λ e. shape_eq-same b a (sym (shape_eq-is a b e))) (λ e. shape_eq-same a b (sym (shape_eq-is b a e)));
+  symm = λ a b. both_ways (shape_eq a b) (shape_eq b a)
+      (λ e. shape_eq-same b a (sym (shape_eq-is a b e)))
+      (λ e. shape_eq-same a b (sym (shape_eq-is b a e)));
   congr = λ a b c e. ap (λ (z : Shape). shape_eq z c) (shape_eq-is a b e);
 }
 

@@ -9,6 +9,7 @@ use Rattle.type_shapes.specs.declared.shape.Head.TheVariants.{Dyn, Int, Bool as 
 use Rattle.type_shapes.specs.declared.shape.Shape.{Shape}
 use Rattle.type_shapes.specs.computed.ByNumber.{entry}
 
+-- the types of fields, in their order
 abbrev pub types_of : Fields → List Ty
 types_of no_fields = []
 types_of (more_fields n t fs) = t ∷ types_of fs
@@ -30,6 +31,7 @@ abbrev pub AreBelow : ℕ → List ℕ → Type 0
 AreBelow n [] = Unit {0}
 AreBelow n (k ∷ ks) = (k < n) × AreBelow n ks
 
+-- the head is that of the type: an object's number is that of its field names
 abbrev pub HasHead : List (List (List ℕ)) → Head → Ty → Type 0
 HasHead names h dyn = h ≡ Dyn
 HasHead names h int = h ≡ Int
@@ -52,7 +54,12 @@ IsNamed ts _ _ = ⊥
 
 -- the rows below n hold the numbers of the meets
 pub record AreMeets (ts : List Ty) (rows : List (List (Option ℕ))) (n : ℕ) : Type 0 where
-  pub at : (a b : ℕ) → b < a → a < n → (x y : Ty) → slice_get ts a ≡ Some x → slice_get ts b ≡ Some y → IsNamed ts (entry rows a b) (meet_of y x)
+  pub at : (a b : ℕ) → b < a → a < n → (x y : Ty) → slice_get ts a ≡ Some x → slice_get ts b ≡ Some y
+      → IsNamed ts (entry rows a b) (meet_of y x)
+
+-- the number of the meet of the types of two numbers, or none where they have no meet
+abbrev pub IsMetNumber : List Ty → ℕ → ℕ → Option ℕ → Type 0
+IsMetNumber ts a b o = (x y : Ty) → slice_get ts a ≡ Some x → slice_get ts b ≡ Some y → IsNamed ts o (meet_of x y)
 
 -- nothing stands at two places
 abbrev pub IsOnce : {X : Type 0} → List X → Type 0

@@ -13,9 +13,10 @@ mod rows;
 mod shape;
 
 pub use limits::MOST_TYPES;
-pub use measure::is_too_large;
 pub use meets::met_no;
-pub use numbering::shape_of;
 pub use putting::put_numbered;
 pub use rows::all_rows;
 pub use shape::{Head, Shape};
+
+#[cfg(test)]
+mod tests;

@@ -1,9 +1,12 @@
-ghost use Rattle.std.specs.Prelude.{◌≡◌, ◌↔◌, IsTrue};
+ghost use Rattle.std.specs.Prelude.{◌≡◌, ◌↔◌, IsTrue, slice_get};
+ghost use Rattle.mono_syntax.specs.Ty.{Ty};
 ghost use Rattle.mono_syntax.specs.TyView.{tys, fields};
 ghost use Rattle.mono_tree.specs.Sizes.{IsTooLarge};
 ghost use Rattle.mono_tree.specs.computed.CountedSizes.{measured, nothing};
-ghost use Rattle.type_shapes.specs.computed.CountedParts.{sizes_onto, fields_onto};
+ghost use Rattle.type_shapes.specs.computed.CountedParts.{sizes_onto, fields_onto, size_more, sizes_at};
+ghost use Rattle.type_shapes.specs.Shows.{kids, AreNamed};
 
+use indexmap::IndexSet;
 use mono_list::Shared;
 use mono_syntax::{Field, Ty, TyKind};
 use mono_tree::Size;
@@ -51,4 +54,31 @@ pub fn is_too_large(ty: &Ty) -> bool
     ensures { IsTrue result ↔ IsTooLarge ty.now }
 {
     size_of(ty).is_too_large()
+}
+
+/// Some parts and the one at a place of the list.
+fn size_more(set: &IndexSet<Ty>, size: Size, part: u16) -> Size
+    ensures { result ≡ size_more size (slice_get set.now.keys part) }
+{
+    match set.get_index(part as usize) {
+        Some(ty) => size.joined(size_of(ty)),
+        None => size,
+    }
+}
+
+fn sizes_at(set: &IndexSet<Ty>, parts: &[u16]) -> Size
+    ensures { result ≡ sizes_at set.now.keys nothing parts.now }
+{
+    let mut size = Size::NOTHING;
+    for part in parts {
+        size = size_more(set, size, *part);
+    }
+    size
+}
+
+/// Whether the type whose parts stand at these places of the list is over the limits of a type. The type needn't be made for it.
+pub fn is_too_large_by_parts(set: &IndexSet<Ty>, parts: &[u16]) -> bool
+    ensures { (m : Ty) → AreNamed set.now.keys parts.now (kids m) → (IsTrue result ↔ IsTooLarge m) }
+{
+    sizes_at(set, parts).grown().is_too_large()
 }

@@ -1,12 +1,23 @@
-ghost use Rattle.std.specs.Prelude.{◌≡◌, IfOk};
+ghost use Rattle.std.specs.Prelude.{◌≡◌, List, IfOk, length};
+ghost use Rattle.mono_syntax.specs.Ty.{Ty};
+ghost use Rattle.type_shapes.specs.Shows.{AreMeets, IsMetNumber};
 ghost use Rattle.type_shapes.specs.computed.ByNumber.{entry, met_no, met_parts, met_shape};
 
 use crate::shape::{Shape, same_head};
 use sqlite_items::Items;
 use std::alloc::{AllocError, Global};
 
-/// The number of the meet of the types of two numbers, where the table has its row.
+/// The number of the meet of the types of two numbers, where the table has its row; None where they have no meet.
 pub fn met_no(rows: &[Items<Option<u16>>], a: u16, b: u16) -> Option<u16>
+    ensures meet { (ts : List Ty) → AreMeets ts rows.now (length ts) → IsMetNumber ts a b result }
+
+    // It is the value that the definition of this name computes.
+    ensures computed { result ≡ met_no rows.now a b }
+{
+    looked_up(rows, a, b)
+}
+
+fn looked_up(rows: &[Items<Option<u16>>], a: u16, b: u16) -> Option<u16>
     ensures { result ≡ met_no rows.now a b }
 {
     if a == b {
@@ -44,7 +55,7 @@ fn met_parts(
     }
     let mut made = Items::new(alloc);
     for (a, b) in parts.iter().zip(others) {
-        let Some(m) = met_no(rows, *a, *b) else {
+        let Some(m) = looked_up(rows, *a, *b) else {
             return Ok(None);
         };
         made.push(m)?;

@@ -3,6 +3,7 @@ ghost use Rattle.std.specs.List.{list_any};
 ghost use Rattle.mono_syntax.specs.computed.TyEq.{ty_eq};
 ghost use Rattle.mono_syntax.specs.Ty.{Ty};
 ghost use Rattle.mono_tree.specs.ClosedList.{IsPart, put};
+ghost use Rattle.mono_tree.specs.Sizes.{IsTooLarge};
 ghost use Rattle.type_shapes.specs.Limits.{IsWithinLimits, refused, IsFault};
 ghost use Rattle.type_shapes.specs.Numbered.{IsNumbered};
 
@@ -16,27 +17,25 @@ use mono_tree::copy_type;
 use sqlite_items::Items;
 use std::alloc::Global;
 
-fn refusal(reason: Reason) -> LoadFault
+/// A refusal of types, which stands at the script's first character.
+pub fn refusal(reason: Reason) -> LoadFault
     ensures { result ≡ refused reason }
 {
     let place = Place { line: 1, column: 1 };
     LoadFault::Refused(Refusal { place, reason })
 }
 
-/// A type goes to the end of the list, unless it is there already.
-pub fn put(set: &mut IndexSet<Ty>, ty: Ty) -> Result<(), LoadFault>
-    requires { IsWithinLimits set.old.keys }
+/// A type that isn't too large goes to the end of the list, unless it is there already. Refused where it is one too many.
+pub fn put_small(set: &mut IndexSet<Ty>, ty: Ty) -> Result<(), LoadFault>
+    requires fine { IsWithinLimits set.old.keys }
+    requires small { IsTooLarge ty → ⊥ }
     ensures keys { OnOk result (set.new.keys ≡ put set.old.keys ty) }
     ensures fine { OnOk result (IsWithinLimits set.new.keys) }
     ensures fault { IfErr result (IsFault (put set.old.keys ty)) }
 {
-    let large = is_too_large(&ty);
     let added = set.insert(ty)?;
     if !added {
         return Ok(());
-    }
-    if large {
-        return Err(refusal(Reason::TypeTooLarge));
     }
     if set.len() > MOST_TYPES {
         return Err(refusal(Reason::TooManyTypes));
@@ -61,9 +60,12 @@ fn put_new(
     ensures fine { OnOk result (IsWithinLimits set.new.keys) }
     ensures fault { IfErr result (IsFault (put set.old.keys ty.now)) }
 {
+    if is_too_large(ty) {
+        return Err(refusal(Reason::TypeTooLarge));
+    }
     let shape = shape_of(alloc, names, set, ty)?;
     let copy = copy_type(alloc, ty)?;
-    put(set, copy)?;
+    put_small(set, copy)?;
     shapes.insert(shape)?;
     Ok(())
 }

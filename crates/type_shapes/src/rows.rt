@@ -1,4 +1,4 @@
-ghost use Rattle.std.specs.Prelude.{ℕ, ◌≡◌, ◌<◌, Some, None, List, slice_get, length, IfOk, IfErr, OnOk};
+ghost use Rattle.std.specs.Prelude.{ℕ, ◌≡◌, ◌<◌, Contains, Some, None, List, slice_get, length, IfOk, IfErr, OnOk};
 ghost use Rattle.mono_syntax.specs.Ty.{Ty};
 ghost use Rattle.type_shapes.specs.declared.shape.Shape.{Shape};
 ghost use Rattle.type_shapes.specs.Shows.{Shows, IsNamed, AreMeets};
@@ -6,15 +6,15 @@ ghost use Rattle.mono_tree.specs.ClosedList.{put, with_row, first_types, IsClose
 ghost use Rattle.type_shapes.specs.Limits.{most_types, IsWithinLimits, IsFault, IsRefusal};
 ghost use Rattle.mono_syntax.specs.declared.refusal.LoadFault.TheVariants.{Memory};
 ghost use Rattle.type_shapes.specs.Numbered.{IsNumbered, IsRow};
-ghost use Rattle.type_shapes.specs.computed.MadeTypes.{typed, type_at};
 ghost use Rattle.type_shapes.specs.computed.PairMeets.{is_dyn, met_of, pair_meet, pair_list};
 
 use crate::made::made_type;
+use crate::measure::is_too_large_by_parts;
 use crate::meets::met_shape;
-use crate::putting::put;
+use crate::putting::{put_small, refusal};
 use crate::shape::{Head, Shape};
 use indexmap::IndexSet;
-use mono_syntax::{LoadFault, Name, Ty};
+use mono_syntax::{LoadFault, Name, Reason, Ty};
 use sqlite_items::Items;
 use std::alloc::{AllocError, Global};
 
@@ -70,7 +70,7 @@ fn small(at: usize) -> u16
     at as u16
 }
 
-/// The type of a shape goes to the end of the list, unless it is there already.
+/// The type of a shape, which is not there, goes to the end of the list. Where it is too large, it isn't made.
 fn add_type(
     alloc: Global,
     names: &[Items<Name>],
@@ -78,31 +78,17 @@ fn add_type(
     shape: &Shape,
 ) -> Result<(), LoadFault>
     requires fine { IsWithinLimits set.old.keys }
-    requires typed { (m : Ty) × (typed names.now set.old.keys shape.now ≡ Some m) }
-    ensures keys { OnOk result ((m : Ty) → typed names.now set.old.keys shape.now ≡ Some m → set.new.keys ≡ put set.old.keys m) }
+    requires shown { (m : Ty) × Shows names.now set.old.keys shape.now m }
+    requires absent { (m : Ty) → Shows names.now set.old.keys shape.now m → Contains set.old.keys m → ⊥ }
+    ensures keys { OnOk result ((m : Ty) → Shows names.now set.old.keys shape.now m → set.new.keys ≡ put set.old.keys m) }
     ensures fine { OnOk result (IsWithinLimits set.new.keys) }
-    ensures fault { IfErr result (λ e. (m : Ty) → typed names.now set.old.keys shape.now ≡ Some m → IsFault (put set.old.keys m) e) }
+    ensures fault { IfErr result (λ e. (m : Ty) → Shows names.now set.old.keys shape.now m → IsFault (put set.old.keys m) e) }
 {
+    if is_too_large_by_parts(set, shape.parts.as_slice()) {
+        return Err(refusal(Reason::TypeTooLarge));
+    }
     let made = made_type(alloc, names, set, shape)?;
-    put(set, made.unwrap())
-}
-
-/// The type of the shape at a place, which has just been put there.
-fn add_newest(
-    alloc: Global,
-    names: &[Items<Name>],
-    set: &mut IndexSet<Ty>,
-    shapes: &IndexSet<Shape>,
-    at: usize,
-) -> Result<(), LoadFault>
-    requires fine { IsWithinLimits set.old.keys }
-    requires typed { (m : Ty) × (type_at names.now set.old.keys shapes.now.keys at ≡ Some m) }
-    ensures keys { OnOk result ((m : Ty) → type_at names.now set.old.keys shapes.now.keys at ≡ Some m → set.new.keys ≡ put set.old.keys m) }
-    ensures fine { OnOk result (IsWithinLimits set.new.keys) }
-    ensures fault { IfErr result (λ e. (m : Ty) → type_at names.now set.old.keys shapes.now.keys at ≡ Some m → IsFault (put set.old.keys m) e) }
-{
-    let shape = shapes.get_index(at).unwrap();
-    add_type(alloc, names, set, shape)
+    put_small(set, made.unwrap())
 }
 
 /// The number of the type of a shape, which goes to the end of both lists unless it is there already.
@@ -126,7 +112,8 @@ fn number(
     if !is_new {
         return Ok(small(at));
     }
-    add_newest(alloc, names, set, shapes, at)?;
+    let newest = shapes.get_index(at).unwrap();
+    add_type(alloc, names, set, newest)?;
     Ok(small(at))
 }
 

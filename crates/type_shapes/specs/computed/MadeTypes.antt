@@ -1,5 +1,5 @@
 -- Computed: the type of a shape, of parts that stand in a list.
-use Rattle.std.specs.Prelude.{ℕ, List, [], ◌∷◌, Option, Some, None, slice_get, option_and_then}
+use Rattle.std.specs.Prelude.{ℕ, List, [], ◌∷◌, Option, Some, None, slice_get}
 use Rattle.mono_syntax.specs.Ty.{Ty, dyn, int, bool, str, nil, fun, obj, Fields, no_fields, more_fields}
 use Rattle.mono_syntax.specs.TyView.{tys}
 use Rattle.type_shapes.specs.declared.shape.Head.{Head}
@@ -46,7 +46,3 @@ typed_by names (Obj g) ts = obj_of (slice_get names g) ts
 -- the type of a shape
 abbrev pub typed : List (List (List ℕ)) → List Ty → Shape → Option Ty
 typed names ts s = typed_by names s.head (types_at ts s.parts)
-
--- the type of the shape at a place
-abbrev pub type_at : List (List (List ℕ)) → List Ty → List Shape → ℕ → Option Ty
-type_at names ts ss k = option_and_then (typed names ts) (slice_get ss k)

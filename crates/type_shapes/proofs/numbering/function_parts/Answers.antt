@@ -11,4 +11,4 @@ pub returns : goal.returns
 returns c =
     let q : c.push.new.self ≡ c.number_in-n.result ∷ [] = c.in_ok-push.ensures.ok ∙ ap (λ (l : List ℕ). l ++ c.number_in-n.result ∷ []) c.new-first.ensures in
     if_ok c.numbers_onto.result c.numbers_onto.ensures (λ ns f. f (c.args.out.now ∷ [])
-      (subst (λ (x : List ℕ). AreNamed c.args.set.now.keys x (c.args.out.now ∷ [])) (sym q) (c.number_in-n.ensures, tt)))
+    (subst (λ (x : List ℕ). AreNamed c.args.set.now.keys x (c.args.out.now ∷ [])) (sym q) (c.number_in-n.ensures, tt)))

@@ -6,7 +6,7 @@ use Rattle.type_shapes.proofs.numbering.shape_of.Goals as goal
 pub function_parts-requires-clause-there : goal.function_parts-requires-clause-there
 function_parts-requires-clause-there c =
     rw (c.get.ensures, c.as_slice.ensures)
-      (fun_parts (λ p. Contains c.args.set.now.keys p) c.in-Fun.out c.in-Fun.params (rw (← c.ty.view_is, c.in-Fun.is) at c.requires.parts))
+    (fun_parts (λ p. Contains c.args.set.now.keys p) c.in-Fun.out c.in-Fun.params (rw (← c.ty.view_is, c.in-Fun.is) at c.requires.parts))
 
 pub returns-in_ok-parts-in-Fun-clause-shows : goal.returns-in_ok-parts-in-Fun-clause-shows
 returns-in_ok-parts-in-Fun-clause-shows c =
