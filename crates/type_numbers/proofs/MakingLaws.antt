@@ -1,5 +1,6 @@
 -- How a table is made: type after type, and class after class.
-use Rattle.std.proofs.Common.{◌≡◌, ◌<◌, ℕ, zero, suc, ◌+◌, Bool, true, false, List, [], ◌∷◌, ◌++◌, length, take, get_or, refl, sym, ◌∙◌, ap, subst, arith, cond}
+use Rattle.std.proofs.Common.{◌≡◌, ◌<◌, ℕ, zero, suc, ◌+◌, Bool, true, false, List, [], ◌∷◌, ◌++◌, length, take, get_or, refl, sym, ◌∙◌}
+use Rattle.std.proofs.Common.{ap, subst, arith, cond}
 use Rattle.std.specs.Prelude.{Option, Some, slice_get, Contains, map, IsTrue, ◌↔◌}
 use Rattle.std.specs.List.{list_any}
 use Rattle.std.proofs.lemmas.List.{take_more, map_more}
@@ -85,7 +86,8 @@ types_push : (ts : List Ty) (ns : List TypeNo) (n : TypeNo) → types_at ts (ns 
 types_push ts [] n = refl
 types_push ts (m ∷ ns) n = ap (λ (l : List Ty). or_dyn (slice_get ts m.0) ∷ l) (types_push ts ns n)
 
-pub types_turn : (ts us : List Ty) (ns : List TypeNo) (n : TypeNo) (i : ℕ) (t : Ty) → i < length us → t ≡ get_or us i t → Names ts n t → types_at ts ns ≡ take i us → types_at ts (ns ++ n ∷ []) ≡ take (i + 1) us
+pub types_turn : (ts us : List Ty) (ns : List TypeNo) (n : TypeNo) (i : ℕ) (t : Ty) → i < length us → t ≡ get_or us i t → Names ts n t
+    → types_at ts ns ≡ take i us → types_at ts (ns ++ n ∷ []) ≡ take (i + 1) us
 types_turn ts us ns n i t l g e same =
     types_push ts ns n
     ∙ ap (λ (o : Option Ty). types_at ts ns ++ or_dyn o ∷ []) e
@@ -99,7 +101,8 @@ range_turn count (m ∷ ns) n r l = (r.0, range_turn count ns n r.1 l)
 
 -- ---- whether each type is static
 
-pub statics_turn : (us : List Ty) (made : List Bool) (i : ℕ) (t : Ty) (b : Bool) → i < length us → t ≡ get_or us i t → (IsTrue b ↔ IsStatic t) → made ≡ map is_static (take i us) → made ++ b ∷ [] ≡ map is_static (take (i + 1) us)
+pub statics_turn : (us : List Ty) (made : List Bool) (i : ℕ) (t : Ty) (b : Bool) → i < length us → t ≡ get_or us i t
+    → (IsTrue b ↔ IsStatic t) → made ≡ map is_static (take i us) → made ++ b ∷ [] ≡ map is_static (take (i + 1) us)
 statics_turn us made i t b l g h same =
     ap (λ (m : List Bool). m ++ b ∷ []) same
     ∙ ap (λ (x : Bool). map is_static (take i us) ++ x ∷ []) (is_is_static b t h ∙ ap is_static g)

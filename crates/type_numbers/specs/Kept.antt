@@ -13,6 +13,7 @@ abbrev pub AreInRange : ℕ → List TypeNo → Type 0
 AreInRange count [] = Unit {0}
 AreInRange count (n ∷ ns) = (n.0 < count) × AreInRange count ns
 
+-- a place out of range gives `Dyn`
 abbrev pub or_dyn : Option Ty → Ty
 or_dyn None = dyn
 or_dyn (Some t) = t
@@ -22,7 +23,10 @@ abbrev pub types_at : List Ty → List TypeNo → List Ty
 types_at ts [] = []
 types_at ts (n ∷ ns) = or_dyn (slice_get ts n.0) ∷ types_at ts ns
 
-pub record IsTable (names : List (List (List ℕ))) (ts : List Ty) (ss : List Shape) (rows : List (List (Option ℕ))) (flags : List Bool) (numbers : List TypeNo) : Type 0 where
+-- the types are within the limits and have shapes; the rows hold the numbers of their meets, the flags tell the static ones, and the
+-- numbers of the classes are in range
+pub record IsTable (names : List (List (List ℕ))) (ts : List Ty) (ss : List Shape) (rows : List (List (Option ℕ))) (flags : List Bool)
+    (numbers : List TypeNo) : Type 0 where
   pub numbered : IsNumbered names ts ss
   pub within : IsWithinLimits ts
   pub meets : AreMeets ts rows (length ts)

@@ -17,8 +17,10 @@ pub record Table : Type 0 where
 -- a table is stored as the pair of its lists
 abbrev pub table_code : Coded Table
 table_code =
-    code_by (List Ty × List Ty) (coded× (coded_list ty_code) (coded_list ty_code)) (λ t. (t.types, t.classes)) (λ p. record { types = p.0; classes = p.1 }) (λ _. refl)
+    code_by (List Ty × List Ty) (coded× (coded_list ty_code) (coded_list ty_code)) (λ t. (t.types, t.classes))
+    (λ p. record { types = p.0; classes = p.1 }) (λ _. refl)
 
+-- there is a class of this number
 abbrev pub IsClass : Table → ClassNo → Type 0
 IsClass t c = c.0 < length t.classes
 

@@ -9,14 +9,17 @@ abbrev pub result_last : List ℕ → List ℕ
 result_last [] = []
 result_last (r ∷ ps) = ps ++ r ∷ []
 
+-- the parts in the order of the type's own
 abbrev pub parts_by : Head → List ℕ → List ℕ
 parts_by Fun ps = result_last ps
 parts_by _ ps = ps
 
+-- a group that isn't there has no names
 abbrev pub or_none : Option (List (List ℕ)) → List (List ℕ)
 or_none None = []
 or_none (Some ns) = ns
 
+-- the names of the fields; none, where it isn't an object
 abbrev pub names_by : List (List (List ℕ)) → Head → List (List ℕ)
 names_by names (Obj g) = or_none (slice_get names g)
 names_by names _ = []
@@ -26,6 +29,7 @@ abbrev pub same_group : Head → Head → Bool
 same_group (Obj g) (Obj k) = g == k
 same_group _ _ = false
 
+-- a number as that of a type
 abbrev pub type_number : Option ℕ → Option TypeNo
 type_number None = None
 type_number (Some n) = Some (record { 0 = n })

@@ -15,12 +15,14 @@ loop-ty-init c =
 
 pub put_numbered-requires-clause-parts : goal.put_numbered-requires-clause-parts
 put_numbered-requires-clause-parts c =
-    parts_put c.args.types.now c.loop-ty.set.keys c.loop-ty.ty-index c.ty-item.result c.loop-ty-test.true c.ty-item.is c.loop-ty.invariant.types c.requires.ordered
+    parts_put c.args.types.now c.loop-ty.set.keys c.loop-ty.ty-index c.ty-item.result c.loop-ty-test.true c.ty-item.is
+    c.loop-ty.invariant.types c.requires.ordered
 
 pub loop-ty-preserved : goal.loop-ty-preserved
 loop-ty-preserved c = record {
   types = c.in_ok-put_numbered.ensures.keys
-      ∙ put_turn c.args.types.now c.loop-ty.set.keys c.loop-ty.ty-index c.ty-item.result c.loop-ty-test.true c.ty-item.is c.loop-ty.invariant.types c.requires.distinct;
+      ∙ put_turn c.args.types.now c.loop-ty.set.keys c.loop-ty.ty-index c.ty-item.result c.loop-ty-test.true c.ty-item.is
+      c.loop-ty.invariant.types c.requires.distinct;
   numbered = c.in_ok-put_numbered.ensures.numbered;
   within = c.in_ok-put_numbered.ensures.fine;
 }

@@ -14,10 +14,13 @@ pub returns-clause-range : goal.returns-clause-range
 returns-clause-range c =
     let l = subst (λ (t : Table). IsClass t c.args.c) (sym c.self.view_is) c.requires in
     subst (λ (t : Table). IsInRange t.types (get_or c.as_slice.result.now c.args.c.0 (record { 0 = 0 }))) c.self.view_is
-    (rw c.as_slice.ensures.value (class_range (length c.self.inside.set.keys) c.self.inside.classes.items c.args.c.0 (record { 0 = 0 }) c.self.invariant.classes
+    (rw c.as_slice.ensures.value (class_range (length c.self.inside.set.keys) c.self.inside.classes.items c.args.c.0
+    (record { 0 = 0 }) c.self.invariant.classes
     (subst (λ (n : ℕ). c.args.c.0 < n) (class_length c.self.inside.set.keys c.self.inside.classes.items) l)))
 
 pub returns-clause-names : goal.returns-clause-names
 returns-clause-names c =
-    subst (λ (t : Table). (x : Ty) → IsClassType t c.args.c x → Names t.types (get_or c.as_slice.result.now c.args.c.0 (record { 0 = 0 })) x) c.self.view_is
-    (λ x e. rw c.as_slice.ensures.value (class_named c.self.inside.set.keys c.self.inside.classes.items c.args.c.0 (record { 0 = 0 }) x c.self.invariant.classes e))
+    subst (λ (t : Table). (x : Ty) → IsClassType t c.args.c x → Names t.types
+    (get_or c.as_slice.result.now c.args.c.0 (record { 0 = 0 })) x) c.self.view_is
+    (λ x e. rw c.as_slice.ensures.value (class_named c.self.inside.set.keys c.self.inside.classes.items c.args.c.0
+    (record { 0 = 0 }) x c.self.invariant.classes e))

@@ -12,6 +12,8 @@ pub returns : goal.returns
 returns c =
     let s = c.index-as_slice-a.result in
     let g = subst (λ (l : List Shape). s ≡ get_or l c.args.a.0 s) c.as_slice.ensures.keys c.index-as_slice-a.is in
-    subst (λ (t : Table). (x : Ty) → Names t.types c.args.a x → IsNumberOf t.types c.part_in.result (slice_get (parts_of x) c.args.i)) c.self.view_is
+    subst (λ (t : Table). (x : Ty) → Names t.types c.args.a x → IsNumberOf t.types c.part_in.result (slice_get (parts_of x) c.args.i))
+    c.self.view_is
     (λ x e. subst (λ (o : Option TypeNo). IsNumberOf c.self.inside.set.keys o (slice_get (parts_of x) c.args.i)) (sym c.part_in.ensures)
-    (part_named c.self.inside.names.items c.self.inside.set.keys s x c.args.i (shape_shows _ _ _ _ _ _ c.self.invariant c.args.a.0 x s e g)))
+    (part_named c.self.inside.names.items c.self.inside.set.keys s x c.args.i
+    (shape_shows _ _ _ _ _ _ c.self.invariant c.args.a.0 x s e g)))

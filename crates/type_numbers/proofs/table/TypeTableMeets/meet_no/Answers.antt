@@ -11,8 +11,11 @@ use Rattle.type_numbers.proofs.table.TypeTableMeets.meet_no.Goals as goal
 
 pub returns : goal.returns
 returns c =
-    let r = c.meet_in.ensures ∙ ap (λ (l : List (List (Option ℕ))). type_number (met_no l c.args.a.0 c.args.b.0)) c.as_slice.ensures.value in
+    let r = c.meet_in.ensures ∙ ap (λ (l : List (List (Option ℕ))). type_number (met_no l c.args.a.0 c.args.b.0))
+    c.as_slice.ensures.value in
     record {
-      meet = subst (λ (t : Table). (x y : Ty) → Names t.types c.args.a x → Names t.types c.args.b y → IsMeetNumber t.types c.meet_in.result x y) c.self.view_is
-          (λ x y e f. subst (λ (o : Option TypeNo). IsMeetNumber c.self.inside.set.keys o x y) (sym r) (meet_told _ _ _ _ _ _ c.self.invariant c.args.a.0 c.args.b.0 x y e f));
+      meet = subst (λ (t : Table). (x y : Ty) → Names t.types c.args.a x → Names t.types c.args.b y
+          → IsMeetNumber t.types c.meet_in.result x y) c.self.view_is
+          (λ x y e f. subst (λ (o : Option TypeNo). IsMeetNumber c.self.inside.set.keys o x y) (sym r)
+          (meet_told _ _ _ _ _ _ c.self.invariant c.args.a.0 c.args.b.0 x y e f));
     }

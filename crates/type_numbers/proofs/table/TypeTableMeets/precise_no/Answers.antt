@@ -13,19 +13,25 @@ use Rattle.type_numbers.proofs.table.TypeTableMeets.precise_no.Goals as goal
 pub returns-in-Some : goal.returns-in-Some
 returns-in-Some c =
     let r : type_number (met_no c.self.inside.rows.items c.args.a.0 c.args.b.0) ≡ Some c.in-Some.m =
-    sym (c.meet_in.ensures ∙ ap (λ (l : List (List (Option ℕ))). type_number (met_no l c.args.a.0 c.args.b.0)) c.as_slice.ensures.value) ∙ c.in-Some.is in
+    sym (c.meet_in.ensures ∙ ap (λ (l : List (List (Option ℕ))). type_number (met_no l c.args.a.0 c.args.b.0)) c.as_slice.ensures.value)
+    ∙ c.in-Some.is in
     record {
-      precise = subst (λ (t : Table). (x y : Ty) → Names t.types c.args.a x → Names t.types c.args.b y → IsTrue (nat_eq c.in-Some.m.0 c.args.a.0) ↔ Precise x y) c.self.view_is
+      precise = subst (λ (t : Table). (x y : Ty) → Names t.types c.args.a x → Names t.types c.args.b y
+          → IsTrue (nat_eq c.in-Some.m.0 c.args.a.0) ↔ Precise x y) c.self.view_is
           (λ x y e f. precise_by c.self.inside.set.keys x y (types_once _ _ _ _ _ _ c.self.invariant) c.in-Some.m c.args.a.0 e
-          (subst (λ (o : Option TypeNo). IsMeetNumber c.self.inside.set.keys o x y) r (meet_told _ _ _ _ _ _ c.self.invariant c.args.a.0 c.args.b.0 x y e f)));
+          (subst (λ (o : Option TypeNo). IsMeetNumber c.self.inside.set.keys o x y) r
+          (meet_told _ _ _ _ _ _ c.self.invariant c.args.a.0 c.args.b.0 x y e f)));
     }
 
 pub returns-in-None : goal.returns-in-None
 returns-in-None c =
     let r : type_number (met_no c.self.inside.rows.items c.args.a.0 c.args.b.0) ≡ None =
-    sym (c.meet_in.ensures ∙ ap (λ (l : List (List (Option ℕ))). type_number (met_no l c.args.a.0 c.args.b.0)) c.as_slice.ensures.value) ∙ c.in-None.is in
+    sym (c.meet_in.ensures ∙ ap (λ (l : List (List (Option ℕ))). type_number (met_no l c.args.a.0 c.args.b.0)) c.as_slice.ensures.value)
+    ∙ c.in-None.is in
     record {
-      precise = subst (λ (t : Table). (x y : Ty) → Names t.types c.args.a x → Names t.types c.args.b y → IsTrue false ↔ Precise x y) c.self.view_is
+      precise = subst (λ (t : Table). (x y : Ty) → Names t.types c.args.a x → Names t.types c.args.b y → IsTrue false ↔ Precise x y)
+          c.self.view_is
           (λ x y e f. precise_apart c.self.inside.set.keys x y
-          (subst (λ (o : Option TypeNo). IsMeetNumber c.self.inside.set.keys o x y) r (meet_told _ _ _ _ _ _ c.self.invariant c.args.a.0 c.args.b.0 x y e f)));
+          (subst (λ (o : Option TypeNo). IsMeetNumber c.self.inside.set.keys o x y) r
+          (meet_told _ _ _ _ _ _ c.self.invariant c.args.a.0 c.args.b.0 x y e f)));
     }
