@@ -77,10 +77,10 @@ kids_size str = refl
 kids_size nil = refl
 kids_size (fun ps r) =
     ap (λ (s : Size). grown (types_onto s (tys_list ps))) (joined-capped 0 0 r)
-      ∙ ap grown (listed_sizes ps (capped (0 + nodes_of r) (max 0 (depth_of r))))
-      ∙ ap grown (onto_capped ps (0 + nodes_of r) (max 0 (depth_of r)))
-      ∙ grown-capped (0 + nodes_of r + nodes_of_all ps) (max (max 0 (depth_of r)) (depth_of_all ps))
-      ∙ capped-same (omega arith) (omega arith)
+    ∙ ap grown (listed_sizes ps (capped (0 + nodes_of r) (max 0 (depth_of r))))
+    ∙ ap grown (onto_capped ps (0 + nodes_of r) (max 0 (depth_of r)))
+    ∙ grown-capped (0 + nodes_of r + nodes_of_all ps) (max (max 0 (depth_of r)) (depth_of_all ps))
+    ∙ capped-same (omega arith) (omega arith)
 kids_size (obj fs) = ap grown (field_sizes fs nothing) ∙ size-obj fs
 
 pub parts_large : (ts : List Ty) (ns : List ℕ) (m : Ty) → AreNamed ts ns (kids m) → IsTrue (is_too_large (grown (sizes_at ts nothing ns))) ↔ IsTooLarge m

@@ -11,6 +11,7 @@ use mono_list::Shared;
 use mono_syntax::{Field, Ty, TyKind};
 use mono_tree::Size;
 
+/// The size of a type.
 #[cycle(measure)]
 #[tactic(auto, using(crate::proofs::SizeTurns::size_turns))]
 fn size_of(ty: &Ty) -> Size
@@ -25,6 +26,7 @@ fn size_of(ty: &Ty) -> Size
     }
 }
 
+/// The size of parameters' types, without their function.
 #[cycle(measure)]
 #[tactic(auto, using(mono_syntax::proofs::Parts::parts))]
 fn sizes_of(types: &[Shared<Ty>]) -> Size
@@ -37,6 +39,7 @@ fn sizes_of(types: &[Shared<Ty>]) -> Size
     parts
 }
 
+/// The size of fields' types, without their object.
 #[cycle(measure)]
 #[tactic(auto, using(mono_syntax::proofs::Parts::parts))]
 fn sizes_of_fields(members: &[Field]) -> Size
@@ -66,6 +69,7 @@ fn size_more(set: &IndexSet<Ty>, size: Size, part: u16) -> Size
     }
 }
 
+/// The size of the types at some places of the list.
 fn sizes_at(set: &IndexSet<Ty>, parts: &[u16]) -> Size
     ensures { result ≡ sizes_at set.now.keys nothing parts.now }
 {

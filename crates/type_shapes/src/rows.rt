@@ -193,7 +193,8 @@ fn row(
     Ok(made)
 }
 
-/// All rows: the list gets the meets of all its members, those of new ones too.
+/// All rows: the list gets the meets of all its members, those of new ones too. The row of a number has the numbers of its meets with
+/// each smaller number, or None where there is no meet. Refused where a meet is too large, or is one too many.
 pub fn all_rows(
     alloc: Global,
     names: &[Items<Name>],

@@ -23,6 +23,7 @@ pub struct Shape {
     pub parts: Items<u16>,
 }
 
+/// Whether two heads are the same.
 pub fn same_head(a: Head, b: Head) -> bool
     ensures { result ≡ head_eq a b }
 {

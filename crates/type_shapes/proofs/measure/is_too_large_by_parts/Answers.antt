@@ -1,4 +1,4 @@
-use Rattle.std.proofs.Common.{◌≡◌, ◌↔◌, Bool, sym, subst, ◌∙◌, ap}
+use Rattle.std.proofs.Common.{◌↔◌, Bool, sym, subst, ◌∙◌, ap}
 use Rattle.std.specs.Prelude.{IsTrue}
 use Rattle.mono_tree.specs.Sizes.{IsTooLarge}
 use Rattle.mono_tree.specs.computed.CountedSizes.{grown, is_too_large}

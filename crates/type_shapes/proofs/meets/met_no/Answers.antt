@@ -1,5 +1,4 @@
 use Rattle.std.proofs.Common.{length, subst, sym}
-use Rattle.std.specs.Prelude.{Option, ℕ}
 use Rattle.std.proofs.lemmas.Option.{slice_get_within}
 use Rattle.type_shapes.specs.Shows.{IsMetNumber}
 use Rattle.type_shapes.proofs.ShapeLaws.{number_met}

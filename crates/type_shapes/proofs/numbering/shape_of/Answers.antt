@@ -1,4 +1,4 @@
-use Rattle.std.proofs.Common.{◌≡◌, ◌∷◌, refl}
+use Rattle.std.proofs.Common.{refl}
 use Rattle.std.specs.Prelude.{Contains}
 use Rattle.type_shapes.proofs.ShapeTurns.{named_fun, fun_parts}
 use Rattle.type_shapes.proofs.numbering.shape_of.Goals as goal

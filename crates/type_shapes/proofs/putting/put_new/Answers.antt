@@ -24,7 +24,7 @@ is_true x e = cc
 pub returns-then-is_too_large-clause-fault : goal.returns-then-is_too_large-clause-fault
 returns-then-is_too_large-clause-fault c =
     subst (IsFault (put c.args.set.now.keys c.args.ty.now)) (sym c.refusal.ensures)
-      (large_put c.args.set.now.keys c.args.ty.now c.requires.fine c.requires.absent (c.is_too_large.ensures.0 (is_true _ c.if-is_too_large.true)))
+    (large_put c.args.set.now.keys c.args.ty.now c.requires.fine c.requires.absent (c.is_too_large.ensures.0 (is_true _ c.if-is_too_large.true)))
 
 pub put_small-requires-clause-small : goal.put_small-requires-clause-small
 put_small-requires-clause-small c = λ y.

@@ -17,7 +17,7 @@ returns-then-len-gt-MOST_TYPES-clause-fault c =
     let k : c.insert.new.self.keys ≡ put c.args.set.now.keys c.args.ty = c.in_ok-added.ensures.keys in
     let l : 4095 < length c.insert.new.self.keys = omega (arith, c.len.ensures.len) in
     subst (IsFault (put c.args.set.now.keys c.args.ty)) (sym c.refusal.ensures)
-      (many_put c.args.set.now.keys c.args.ty c.requires.fine n c.requires.small (subst (λ (x : List Ty). 4095 < length x) k l))
+    (many_put c.args.set.now.keys c.args.ty c.requires.fine n c.requires.small (subst (λ (x : List Ty). 4095 < length x) k l))
 
 pub returns-clause-fine : goal.returns-clause-fine
 returns-clause-fine c =
@@ -25,4 +25,4 @@ returns-clause-fine c =
     let k : c.insert.new.self.keys ≡ put c.args.set.now.keys c.args.ty = c.in_ok-added.ensures.keys in
     let l : length c.insert.new.self.keys ≤ 4095 = omega (arith, c.len.ensures.len) in
     subst IsWithinLimits (sym k)
-      (fine_put c.args.set.now.keys c.args.ty c.requires.fine n c.requires.small (subst (λ (x : List Ty). length x ≤ 4095) k l))
+    (fine_put c.args.set.now.keys c.args.ty c.requires.fine n c.requires.small (subst (λ (x : List Ty). length x ≤ 4095) k l))

@@ -5,7 +5,7 @@ use Rattle.type_shapes.specs.Shows.{IsNamed}
 use Rattle.type_shapes.specs.declared.rows.Met.TheVariants.{At, New, Apart}
 use Rattle.type_shapes.specs.Limits.{IsFault}
 use Rattle.type_shapes.specs.computed.PairMeets.{pair_meet}
-use Rattle.type_shapes.proofs.RowLaws.{on_ok, ok_from, if_ok, if_err, Means, met_means, list_at, list_new, list_apart}
+use Rattle.type_shapes.proofs.RowLaws.{ok_from, if_ok, if_err, Means, met_means, list_at, list_new, list_apart}
 use Rattle.type_shapes.proofs.LimitLaws.{within_limits}
 use Rattle.type_shapes.proofs.rows.pair.Goals as goal
 
