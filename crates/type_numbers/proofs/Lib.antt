@@ -1,0 +1,6 @@
+-- Proofs.
+
+-- what shapes, rows and numbers say of the types
+pub mod TableLaws
+-- how a table is made
+pub mod MakingLaws

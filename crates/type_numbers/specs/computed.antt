@@ -1,0 +1,4 @@
+-- Computed: what code computes.
+
+-- parts and names by shapes
+pub mod ShapeParts
