@@ -1,0 +1,7 @@
+//! The command line: the words after the program's name come in, and the command that they ask for goes out. The contract says that
+//! it is the one that the rule of command lines gives them, and that they are refused exactly where it gives none.
+#![tactic(auto)]
+
+mod command;
+
+pub use command::Command;
