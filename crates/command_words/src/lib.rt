@@ -3,5 +3,8 @@
 #![tactic(auto)]
 
 mod command;
+mod fault;
+mod number;
 
 pub use command::Command;
+pub use fault::WordsFault;
