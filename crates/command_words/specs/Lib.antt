@@ -4,3 +4,5 @@
 pub mod Words
 -- which command they ask for
 pub mod CommandLine
+-- what only computes
+pub mod computed

@@ -5,6 +5,12 @@
 mod command;
 mod fault;
 mod number;
+mod parser;
+mod read;
 
 pub use command::Command;
 pub use fault::WordsFault;
+pub use read::read_words;
+
+#[cfg(test)]
+mod tests;

@@ -1,0 +1,4 @@
+-- Computed: what code computes.
+
+-- the parser of a command's words
+pub mod Parser
