@@ -8,3 +8,9 @@ pub mod Rows
 pub mod Forms
 -- what the parser does at a word of each form
 pub mod Turns
+-- words that give options and last words, as parts in their order
+pub mod Parts
+-- words that the parser takes give options and last words
+pub mod Went
+-- and the other way round
+pub mod Taken

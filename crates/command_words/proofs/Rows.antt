@@ -3,6 +3,7 @@ use Rattle.std.proofs.Common.{◌≡◌, ◌⊎◌, ◌∙◌, ◌||◌, ◌&&�
 use Rattle.std.proofs.lemmas.List.{append_assoc}
 use Rattle.std.specs.List.{list_all, list_any}
 use Rattle.std.specs.Str.{bytes_eq}
+use Rattle.clap.specs.Lexer.{long_of}
 use Rattle.clap.specs.Walk.{Held, Row, Rule, Text, arg_by_id, at_row, has_row, more_values, reading_by, settled, settled_rows, used, used_by_id, without}
 use Rattle.clap.specs.Kinds.{Kinds, or_else}
 use Rattle.clap.specs.Faults.{settle_fault, use_fault}
@@ -42,6 +43,10 @@ rows xs = map row_at xs
 pub record IsName (n : Text) : Type 0 where
   pub not_last : bytes_eq n (codes "last") ≡ false
   pub last_not : bytes_eq (codes "last") n ≡ false
+  pub no_dashes : bytes_eq (45 ∷ 45 ∷ n) (45 ∷ 45 ∷ []) ≡ false
+  pub alone : long_of (45 ∷ 45 ∷ n) ≡ Some (n, None)
+  pub joined_dashes : (v : Text) → bytes_eq (45 ∷ 45 ∷ n ++ 61 ∷ v) (45 ∷ 45 ∷ []) ≡ false
+  pub joined : (v : Text) → long_of (45 ∷ 45 ∷ n ++ 61 ∷ v) ≡ Some (n, Some v)
 
 abbrev pub AreNames : List Text → Type 0
 AreNames names = (n : Text) → Among names n → IsName n

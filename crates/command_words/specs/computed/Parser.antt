@@ -1,5 +1,6 @@
 -- What the parser of a command's words reads of its arguments.
-use Rattle.std.specs.Prelude.{ℕ, true, List, [], ◌∷◌, map, Some, codes}
+use Rattle.std.specs.Prelude.{ℕ, true, List, [], ◌∷◌, map, Option, Some, None, codes, if◌then◌else◌}
+use Rattle.std.specs.Str.{bytes_eq}
 use Rattle.clap.specs.Simple.{App, new_rule, new_shape}
 use Rattle.clap.specs.Walk.{Rule}
 use Rattle.clap.specs.declared.builder.action.ArgAction.TheVariants.{Set}
@@ -23,3 +24,8 @@ parser_app names = record {
   };
   subs = [];
 }
+
+-- the text of the first option of this name
+abbrev pub look : List ℕ → List (List ℕ × List ℕ) → Option (List ℕ)
+look name [] = None
+look name (o ∷ options) = if bytes_eq o.0 name then Some o.1 else look name options
