@@ -14,3 +14,5 @@ pub mod Parts
 pub mod Went
 -- and the other way round
 pub mod Taken
+-- the parser as a whole
+pub mod Whole

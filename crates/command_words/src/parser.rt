@@ -1,8 +1,9 @@
 //! What stands behind a command's word goes to a parser of options with one value each and one last word.
-ghost use Rattle.std.specs.Prelude.{◌≡◌, [], ◌∷◌, ◌++◌, true, false, map, codes, IfOk, IfErr, string_bytes};
+ghost use Rattle.std.specs.Prelude.{◌≡◌, [], true, map, codes, IfOk, IfErr, string_bytes};
 ghost use Rattle.clap.specs.Faults.{fault_of, is_simple_and_free};
 ghost use Rattle.clap.specs.Matches.{found_of};
-ghost use Rattle.clap.specs.Simple.{app_of, matches_of};
+ghost use Rattle.clap.specs.Simple.{app_of, matches_of, with_rule};
+ghost use Rattle.std.specs.List.{fold};
 ghost use Rattle.clap.specs.Walk.{rule_of, rows_of};
 ghost use Rattle.command_words.specs.CommandLine.{run_options, step_options};
 ghost use Rattle.command_words.specs.computed.Parser.{option_rule, last_rule, parser_app};
@@ -42,20 +43,28 @@ pub(crate) fn file_parser(alloc: Global) -> Result<Command<'static>, AllocError>
         .arg(last_arg(alloc))
 }
 
-// Has the options of a run.
-pub(crate) fn run_parser(alloc: Global) -> Result<Command<'static>, AllocError>
-    ensures { IfOk result (λ p. app_of p ≡ parser_app run_options) }
+// Has the options of a run too.
+fn with_limits(alloc: Global, parser: Command<'static>) -> Result<Command<'static>, AllocError>
+    ensures { IfOk result (λ p. app_of p ≡ fold with_rule (app_of parser.entry) (map option_rule run_options)) }
 {
-    let with_fuel = file_parser(alloc)?.arg(option_arg(alloc, "fuel"))?;
+    let with_fuel = parser.arg(option_arg(alloc, "fuel"))?;
     let with_heap = with_fuel.arg(option_arg(alloc, "heap"))?;
     with_heap.arg(option_arg(alloc, "print"))
 }
 
+// Has the options of a run.
+pub(crate) fn run_parser(alloc: Global) -> Result<Command<'static>, AllocError>
+    ensures { IfOk result (λ p. app_of p ≡ parser_app run_options) }
+{
+    with_limits(alloc, file_parser(alloc)?)
+}
+
 // Has the options of a run in a seed's order.
 pub(crate) fn step_parser(alloc: Global) -> Result<Command<'static>, AllocError>
-    ensures { IfOk result (λ p. app_of p ≡ parser_app (run_options ++ codes "seed" ∷ [])) }
+    ensures { IfOk result (λ p. app_of p ≡ parser_app step_options) }
 {
-    run_parser(alloc)?.arg(option_arg(alloc, "seed"))
+    let with_seed = file_parser(alloc)?.arg(option_arg(alloc, "seed"))?;
+    with_limits(alloc, with_seed)
 }
 
 pub(crate) fn matches_in<'a>(parser: Command<'a>, words: &'a [String]) -> Result<ArgMatches<'a>, WordsFault>
