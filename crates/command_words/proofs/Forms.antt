@@ -114,7 +114,7 @@ letter_at y ys utf8 = go (chars (y ∷ ys)) refl
     go : (cs : List ℕ) → chars (y ∷ ys) ≡ cs → (x : ℕ) × (slice_get cs 0 ≡ Some x)
     go [] e =
         let all : encode_utf8_all (45 ∷ []) ≡ 45 ∷ y ∷ ys = ap (λ (cs : List ℕ). encode_utf8_all (45 ∷ cs)) (sym e)
-            ∙ ap (λ (cs : List ℕ). encode_utf8_all cs) (sym (chars_behind y ys)) ∙ encodes-chars (45 ∷ y ∷ ys) utf8 in
+        ∙ ap (λ (cs : List ℕ). encode_utf8_all cs) (sym (chars_behind y ys)) ∙ encodes-chars (45 ∷ y ∷ ys) utf8 in
         absurd (cc (sym hyphen_encoded ∙ all))
     go (x ∷ rest) e = (x, refl)
 

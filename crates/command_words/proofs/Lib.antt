@@ -16,3 +16,7 @@ pub mod Went
 pub mod Taken
 -- the parser as a whole
 pub mod Whole
+-- options with numbers as their texts
+pub mod Numbers
+-- command lines, from what the parser reads
+pub mod Commands

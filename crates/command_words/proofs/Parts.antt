@@ -85,12 +85,14 @@ ends_next names w after word words e = ap (λ (v : Walk). ends names v words) e
 pub fresh_absent : {names words : List Text} {os : List (Text × Text)} {ls : List Text} (g : Gives names words os ls) (xs : List Part) (n : Text)
     → has_row n (rows xs) ≡ true → AreFresh xs (parts_of g) → IsAbsent n os
 fresh_absent nothing xs n h f = tt
-fresh_absent (spaced {name = m} {text = t} known e g) xs n h f =
-    ((λ (same : n ≡ m). absurd (true≢false (sym h ∙ ap (λ (i : Text). has_row i (rows xs)) same ∙ f.0))),
-    fresh_absent g (xs ++ given m t ∷ []) n (present_more n xs (given m t) h) f.1)
-fresh_absent (joined {name = m} {text = t} known e g) xs n h f =
-    ((λ (same : n ≡ m). absurd (true≢false (sym h ∙ ap (λ (i : Text). has_row i (rows xs)) same ∙ f.0))),
-    fresh_absent g (xs ++ given m t ∷ []) n (present_more n xs (given m t) h) f.1)
+fresh_absent (spaced {name = m} {text = t} known e g) xs n h f = (
+  (λ (same : n ≡ m). absurd (true≢false (sym h ∙ ap (λ (i : Text). has_row i (rows xs)) same ∙ f.0))),
+  fresh_absent g (xs ++ given m t ∷ []) n (present_more n xs (given m t) h) f.1,
+)
+fresh_absent (joined {name = m} {text = t} known e g) xs n h f = (
+  (λ (same : n ≡ m). absurd (true≢false (sym h ∙ ap (λ (i : Text). has_row i (rows xs)) same ∙ f.0))),
+  fresh_absent g (xs ++ given m t ∷ []) n (present_more n xs (given m t) h) f.1,
+)
 fresh_absent (plain {word = w} p g) xs n h f = fresh_absent g (xs ++ last w ∷ []) n (present_more n xs (last w) h) f.1
 fresh_absent (rest e) xs n h f = tt
 
@@ -187,12 +189,16 @@ rest_fresh (w ∷ ws) xs a one = (a, go ws one)
 pub once_fresh : {names words : List Text} {os : List (Text × Text)} {ls : List Text} (g : Gives names words os ls) (xs : List Part) → AreNames names
     → Apart xs os → LastApart xs ls → AreOnce os → IsOneLast ls → AreFresh xs (parts_of g)
 once_fresh nothing xs ok a b once one = tt
-once_fresh {names} (spaced {name = m} {text = t} {options = os} {last = ls} known e g) xs ok a b once one =
-    (a.0, once_fresh g (xs ++ given m t ∷ []) ok (apart_more os xs (given m t) a.1 (absent_differs m os once.0))
-    (last_apart_more ls xs (given m t) b (ok m (among names m known)).not_last) once.1 one)
-once_fresh {names} (joined {name = m} {text = t} {options = os} {last = ls} known e g) xs ok a b once one =
-    (a.0, once_fresh g (xs ++ given m t ∷ []) ok (apart_more os xs (given m t) a.1 (absent_differs m os once.0))
-    (last_apart_more ls xs (given m t) b (ok m (among names m known)).not_last) once.1 one)
+once_fresh {names} (spaced {name = m} {text = t} {options = os} {last = ls} known e g) xs ok a b once one = (
+  a.0,
+  once_fresh g (xs ++ given m t ∷ []) ok (apart_more os xs (given m t) a.1 (absent_differs m os once.0))
+      (last_apart_more ls xs (given m t) b (ok m (among names m known)).not_last) once.1 one,
+)
+once_fresh {names} (joined {name = m} {text = t} {options = os} {last = ls} known e g) xs ok a b once one = (
+  a.0,
+  once_fresh g (xs ++ given m t ∷ []) ok (apart_more os xs (given m t) a.1 (absent_differs m os once.0))
+      (last_apart_more ls xs (given m t) b (ok m (among names m known)).not_last) once.1 one,
+)
 once_fresh (plain {word = w} {options = os} {last = ls} p g) xs ok a b once one =
     let none = no_more ls (xs ++ last w ∷ []) one in
     (b, once_fresh g (xs ++ last w ∷ []) ok (apart_more os xs (last w) a (last_differs g ok)) none.0 once none.1)

@@ -59,9 +59,9 @@ by_long (m ∷ names) n = elim (tested (bytes_eq m n)) [
   | inl e ↦ let same : m ≡ n = same_bytes m n e in
       inr (inl same, long_hit m n (options_read names) e ∙ ap (λ (k : Text). Some (option_read k)) same)
   | inr e ↦ elim (by_long names n) [
-      | inl none ↦ inl (long_miss m n (options_read names) e ∙ none)
-      | inr found ↦ inr (inr found.0, long_miss m n (options_read names) e ∙ found.1)
-    ]
+    | inl none ↦ inl (long_miss m n (options_read names) e ∙ none)
+    | inr found ↦ inr (inr found.0, long_miss m n (options_read names) e ∙ found.1)
+  ]
 ]
 
 pub long_known : (names : List Text) (n : Text) → Among names n → arg_by_long (rules names) n ≡ Some (option_read n)
@@ -69,9 +69,9 @@ long_known [] n none = absurd none
 long_known (m ∷ names) n known = elim (tested (bytes_eq m n)) [
   | inl e ↦ long_hit m n (options_read names) e ∙ ap (λ (k : Text). Some (option_read k)) (same_bytes m n e)
   | inr e ↦ elim known [
-      | inl same ↦ other_bytes m n same e
-      | inr later ↦ long_miss m n (options_read names) e ∙ long_known names n later
-    ]
+    | inl same ↦ other_bytes m n same e
+    | inr later ↦ long_miss m n (options_read names) e ∙ long_known names n later
+  ]
 ]
 
 -- by an id
@@ -86,9 +86,9 @@ option_by_id [] n none = absurd none
 option_by_id (m ∷ names) n known = elim (tested (bytes_eq m n)) [
   | inl e ↦ id_hit m n (options_read names) e ∙ ap (λ (k : Text). Some (option_read k)) (same_bytes m n e)
   | inr e ↦ elim known [
-      | inl same ↦ other_bytes m n same e
-      | inr later ↦ id_miss m n (options_read names) e ∙ option_by_id names n later
-    ]
+    | inl same ↦ other_bytes m n same e
+    | inr later ↦ id_miss m n (options_read names) e ∙ option_by_id names n later
+  ]
 ]
 
 pub id_known : (names : List Text) (n : Text) → Among names n → bytes_eq (codes "last") n ≡ false → arg_by_id (rules names) n ≡ Some (option_read n)

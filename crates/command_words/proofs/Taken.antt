@@ -39,10 +39,11 @@ takes_behind names ok [] xs p b ours fit fresh more = takes_none names ok xs p b
 takes_behind names ok (word ∷ words) xs p false ours fit fresh more = absurd fit
 takes_behind names ok (word ∷ words) xs p true ours fit fresh more =
     let step = last_walk names ok xs p true word behind ours fresh in
-    let ih = takes_behind names ok words (seen xs p) (Some (last word)) false tt (no_lasts words fit) more.0 more.1 in
-    (next_passes names (stands xs p true true) (stands (seen xs p) (Some (last word)) false true) word words
-    (last_fault names xs p true word behind ∙ settle_fresh names ok xs p ours fresh) step ih.0,
-    ends_next names (stands xs p true true) (stands (seen xs p) (Some (last word)) false true) word words step ∙ ih.1 ∙ one_more (seen xs p) (last word) (map last words))
+    let ih = takes_behind names ok words (seen xs p) (Some (last word)) false tt (no_lasts words fit) more.0 more.1 in (
+      next_passes names (stands xs p true true) (stands (seen xs p) (Some (last word)) false true) word words
+          (last_fault names xs p true word behind ∙ settle_fresh names ok xs p ours fresh) step ih.0,
+      ends_next names (stands xs p true true) (stands (seen xs p) (Some (last word)) false true) word words step ∙ ih.1 ∙ one_more (seen xs p) (last word) (map last words),
+    )
 
 named_alone : (names : List Text) → AreNames names → (word n : Text) → Among names n → word ≡ option_word n → Names names word n None
 named_alone names ok word n known e =
@@ -60,37 +61,41 @@ takes {names} (spaced {name = n} {word = word} {text = t} {words = words} k e g)
     let i = named_alone names ok word n known e in
     let step = spaced_walk names ok xs p b word n i ours fresh in
     let step₂ = value_walk names ok (seen xs p) n b t (no_flag t plains.0) known in
-    let ih = takes g ok (seen xs p) (Some (given n t)) b known plains.1 fit more.0 more.1 in
-    (next_passes names (stands xs p b false) (waits (seen xs p) n b) word (t ∷ words) (spaced_passes names ok xs p b word n i ours fresh) step
-    (next_passes names (waits (seen xs p) n b) (stands (seen xs p) (Some (given n t)) b false) t words (value_passes names (seen xs p) n b t (no_flag t plains.0)) step₂ ih.0),
-    ends_next names (stands xs p b false) (waits (seen xs p) n b) word (t ∷ words) step
-    ∙ ends_next names (waits (seen xs p) n b) (stands (seen xs p) (Some (given n t)) b false) t words step₂
-    ∙ ih.1 ∙ one_more (seen xs p) (given n t) (parts_of g))
+    let ih = takes g ok (seen xs p) (Some (given n t)) b known plains.1 fit more.0 more.1 in (
+      next_passes names (stands xs p b false) (waits (seen xs p) n b) word (t ∷ words) (spaced_passes names ok xs p b word n i ours fresh) step
+          (next_passes names (waits (seen xs p) n b) (stands (seen xs p) (Some (given n t)) b false) t words (value_passes names (seen xs p) n b t (no_flag t plains.0)) step₂ ih.0),
+      ends_next names (stands xs p b false) (waits (seen xs p) n b) word (t ∷ words) step
+          ∙ ends_next names (waits (seen xs p) n b) (stands (seen xs p) (Some (given n t)) b false) t words step₂
+          ∙ ih.1 ∙ one_more (seen xs p) (given n t) (parts_of g),
+    )
 takes {names} (joined {name = n} {word = word} {text = t} {words = words} k e g) ok xs p b ours plains fit fresh more =
     let known = among names n k in
     let i = named_joined names ok word n t known e in
     let step = joined_walk names ok xs p b word n t i ours fresh more.0 in
-    let ih = takes g ok (seen xs p ++ given n t ∷ []) None b tt plains.1 fit tt more.1 in
-    (next_passes names (stands xs p b false) (stands (seen xs p ++ given n t ∷ []) None b false) word words (joined_passes names ok xs p b word n t i ours fresh more.0) step ih.0,
-    ends_next names (stands xs p b false) (stands (seen xs p ++ given n t ∷ []) None b false) word words step
-    ∙ ih.1 ∙ one_more (seen xs p) (given n t) (parts_of g))
+    let ih = takes g ok (seen xs p ++ given n t ∷ []) None b tt plains.1 fit tt more.1 in (
+      next_passes names (stands xs p b false) (stands (seen xs p ++ given n t ∷ []) None b false) word words (joined_passes names ok xs p b word n t i ours fresh more.0) step ih.0,
+      ends_next names (stands xs p b false) (stands (seen xs p ++ given n t ∷ []) None b false) word words step
+          ∙ ih.1 ∙ one_more (seen xs p) (given n t) (parts_of g),
+    )
 takes {names} (plain {word = word} {words = words} h g) ok xs p false ours plains fit fresh more = absurd fit
 takes {names} (plain {word = word} {words = words} {last = ls} h g) ok xs p true ours plains fit fresh more =
     let flag = unflagged (no_flag word h) in
     let step = last_walk names ok xs p false word flag ours fresh in
-    let ih = takes g ok (seen xs p) (Some (last word)) false tt plains (no_lasts ls fit) more.0 more.1 in
-    (next_passes names (stands xs p true false) (stands (seen xs p) (Some (last word)) false false) word words
-    (last_fault names xs p false word flag ∙ settle_fresh names ok xs p ours fresh) step ih.0,
-    ends_next names (stands xs p true false) (stands (seen xs p) (Some (last word)) false false) word words step
-    ∙ ih.1 ∙ one_more (seen xs p) (last word) (parts_of g))
+    let ih = takes g ok (seen xs p) (Some (last word)) false tt plains (no_lasts ls fit) more.0 more.1 in (
+      next_passes names (stands xs p true false) (stands (seen xs p) (Some (last word)) false false) word words
+          (last_fault names xs p false word flag ∙ settle_fresh names ok xs p ours fresh) step ih.0,
+      ends_next names (stands xs p true false) (stands (seen xs p) (Some (last word)) false false) word words step
+          ∙ ih.1 ∙ one_more (seen xs p) (last word) (parts_of g),
+    )
 takes {names} (rest {word = word} {words = words} e) ok xs p b ours plains fit fresh more =
     let ih = takes_behind names ok words xs p b ours fit fresh more in
     let step : walked (rules names) [] (stands xs p b false) word ≡ stands xs p b true =
-        ap (λ (w : Text). walked (rules names) [] (stands xs p b false) w) e ∙ dashes_walk names xs p b in
+    ap (λ (w : Text). walked (rules names) [] (stands xs p b false) w) e ∙ dashes_walk names xs p b in
     let turn : turn_fault (shape names) [] (stands xs p b false) word ≡ [] =
-        ap (λ (w : Text). turn_fault (shape names) [] (stands xs p b false) w) e ∙ dashes_pass names xs p b in
-    (next_passes names (stands xs p b false) (stands xs p b true) word words turn step ih.0,
-    ends_next names (stands xs p b false) (stands xs p b true) word words step ∙ ih.1)
+    ap (λ (w : Text). turn_fault (shape names) [] (stands xs p b false) w) e ∙ dashes_pass names xs p b in (
+      next_passes names (stands xs p b false) (stands xs p b true) word words turn step ih.0,
+      ends_next names (stands xs p b false) (stands xs p b true) word words step ∙ ih.1,
+    )
 
 pub taken : {names words : List Text} {os : List (Text × Text)} {ls : List Text} (g : Gives names words os ls) → AreNames names → ArePlain os → LastsFit true ls
     → AreFresh [] (parts_of g) → Passes names (stands [] None true false) words × (ends names (stands [] None true false) words ≡ rows (parts_of g))

@@ -47,9 +47,12 @@ behind_goes names ok (word ∷ words) xs p true ours h =
     let next = pass_next names (stands xs p true true) (stands (seen xs p) (Some (last word)) false true) word words h in
     let fresh = settle_clash names ok xs p ours (sym (last_fault names xs p true word behind) ∙ next.0) in
     let step = last_walk names ok xs p true word behind ours fresh in
-    let ih = behind_goes names ok words (seen xs p) (Some (last word)) false tt (next.1 step) in
-    (fresh, (ih.0, ih.1), ends_next names (stands xs p true true) (stands (seen xs p) (Some (last word)) false true) word words step
-    ∙ ih.2 ∙ one_more (seen xs p) (last word) (map last words))
+    let ih = behind_goes names ok words (seen xs p) (Some (last word)) false tt (next.1 step) in (
+      fresh,
+      (ih.0, ih.1),
+      ends_next names (stands xs p true true) (stands (seen xs p) (Some (last word)) false true) word words step
+          ∙ ih.2 ∙ one_more (seen xs p) (last word) (map last words),
+    )
 behind_goes names ok (word ∷ words) xs p false ours h =
     let next = pass_next names (stands xs p false true) (stands xs p false true) word words h in
     absurd (second_refused names xs p true word behind next.0)
@@ -192,8 +195,10 @@ claim_cut names ok x ys words (whole lacks) ih ih₂ = go (by_long names (x ∷ 
   where
     word : Text
     word = 45 ∷ 45 ∷ x ∷ ys
+
     long : long_of (45 ∷ 45 ∷ x ∷ ys) ≡ Some (x ∷ ys, None)
     long = ap (λ (s : Text × Option Text). Some s) (name_and_value-without (x ∷ ys) lacks)
+
     go : (arg_by_long (rules names) (x ∷ ys) ≡ None) ⊎ (Among names (x ∷ ys) × (arg_by_long (rules names) (x ∷ ys) ≡ Some (option_read (x ∷ ys))))
         → Claim names ((45 ∷ 45 ∷ x ∷ ys) ∷ words)
     go (inl none) = λ xs p b ours utf8 h.
@@ -203,6 +208,7 @@ claim_cut names ok x ys words (cut n v lacks e) ih ih₂ = go (by_long names n)
   where
     long : long_of (45 ∷ 45 ∷ x ∷ ys) ≡ Some (n, Some v)
     long = ap (λ (s : Text × Option Text). Some s) (ap (λ (t : Text). name_and_value t) e ∙ name_and_value-at n v lacks)
+
     go : (arg_by_long (rules names) n ≡ None) ⊎ (Among names n × (arg_by_long (rules names) n ≡ Some (option_read n))) → Claim names ((45 ∷ 45 ∷ x ∷ ys) ∷ words)
     go (inl none) = λ xs p b ours utf8 h.
         absurd (unknown_refused names xs p b (45 ∷ 45 ∷ x ∷ ys) n (Some v) refl long none (pass_next names (stands xs p b false) (stands xs p b false) (45 ∷ 45 ∷ x ∷ ys) words h).0)

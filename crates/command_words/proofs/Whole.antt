@@ -120,10 +120,13 @@ parsed names ok words utf8 none =
     let level = level_split names words (sym (fault_is names words) ∙ none) in
     let w = went names ok words utf8 level.0 in
     let there : has_row (codes "last") (rows (parts_of w.gives)) ≡ true =
-        sym (given_rows (codes "last") (parts_of w.gives)) ∙ ap (λ (q : List Row). is_given (codes "last") q) (sym w.rows_are) ∙ level.1 in
-    let one = one_last w.gives [] ok w.more there in
-    (w.options, one.0, reads_from names words ok w.options w.lasts one.0 w.gives (matches_of (parser_app names) words)
-    (matches_are names words ∙ w.rows_are) (fresh_once w.gives [] w.more) one.1)
+    sym (given_rows (codes "last") (parts_of w.gives)) ∙ ap (λ (q : List Row). is_given (codes "last") q) (sym w.rows_are) ∙ level.1 in
+    let one = one_last w.gives [] ok w.more there in (
+      w.options,
+      one.0,
+      reads_from names words ok w.options w.lasts one.0 w.gives (matches_of (parser_app names) words)
+          (matches_are names words ∙ w.rows_are) (fresh_once w.gives [] w.more) one.1,
+    )
 
 apart_none : (os : List (Text × Text)) → Apart [] os
 apart_none [] = tt
@@ -137,9 +140,10 @@ given_taken names ok words options last give plains =
     let more = once_fresh g [] ok (apart_none options) refl give.once refl in
     let t = taken g ok plains refl more in
     let given : is_given (codes "last") (ends names (stands [] None true false) words) ≡ true =
-        ap (λ (q : List Row). is_given (codes "last") q) t.1 ∙ given_rows (codes "last") (parts_of g) ∙ last_stands g last ok refl in
-    (fault_is names words ∙ level_join names words t.0 given,
-    reads_from names words ok options (last ∷ []) last g (matches_of (parser_app names) words) (matches_are names words ∙ t.1) give.once refl)
+    ap (λ (q : List Row). is_given (codes "last") q) t.1 ∙ given_rows (codes "last") (parts_of g) ∙ last_stands g last ok refl in (
+      fault_is names words ∙ level_join names words t.0 given,
+      reads_from names words ok options (last ∷ []) last g (matches_of (parser_app names) words) (matches_are names words ∙ t.1) give.once refl,
+    )
 
 -- ---- the commands' parsers
 

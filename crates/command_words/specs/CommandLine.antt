@@ -46,12 +46,12 @@ IsCommandLine (word ∷ words) (command.Casts file) = (word ≡ codes "casts") �
 IsCommandLine (word ∷ words) (command.Types file) = (word ≡ codes "types") × GiveFile words (string_bytes file)
 IsCommandLine (word ∷ words) (command.Step settings seed file) = (word ≡ codes "step") × (string_bytes file ≢ []) ×
     ((options : List (List ℕ × List ℕ)) × Give step_options words options (string_bytes file) ×
-        AreSettings options settings × IsSeed options seed)
+    AreSettings options settings × IsSeed options seed)
 IsCommandLine (word ∷ words) (command.Run settings file) = (word ≡ codes "run") × (string_bytes file ≢ []) ×
     ((options : List (List ℕ × List ℕ)) × Give run_options words options (string_bytes file) × AreSettings options settings)
 IsCommandLine (word ∷ words) (command.Stress settings seed n) = (word ≡ codes "stress") × (1 ≤ n) × (n ≤ 200) ×
     ((options : List (List ℕ × List ℕ)) × Give step_options words options (decimal n) ×
-        AreSettings options settings × IsSeed options seed)
+    AreSettings options settings × IsSeed options seed)
 
 -- the words are no command line
 abbrev pub IsUsage : List (List ℕ) → Type 0

@@ -50,7 +50,10 @@ static LINES: [(&str, &str); 87] = [
     ("run --seed 1 a", "usage"),
     ("run --fuel 0 a", "usage"),
     ("run --fuel 1 a", "run 1 262144 65536 a"),
-    ("run --fuel 1099511627776 a", "run 1099511627776 262144 65536 a"),
+    (
+        "run --fuel 1099511627776 a",
+        "run 1099511627776 262144 65536 a",
+    ),
     ("run --fuel 1099511627777 a", "usage"),
     ("run --heap 0 a", "usage"),
     ("run --heap 1 a", "run 10000000 1 65536 a"),
@@ -79,9 +82,15 @@ static LINES: [(&str, &str); 87] = [
     ("step a", "step 10000000 262144 65536 0 a"),
     ("step --seed 0 a", "step 10000000 262144 65536 0 a"),
     ("step --seed=00 a", "usage"),
-    ("step --seed=18446744073709551615 a", "step 10000000 262144 65536 18446744073709551615 a"),
+    (
+        "step --seed=18446744073709551615 a",
+        "step 10000000 262144 65536 18446744073709551615 a",
+    ),
     ("step --seed 18446744073709551616 a", "usage"),
-    ("step --seed 7 --fuel 8 --heap 9 --print 10 a", "step 8 9 10 7 a"),
+    (
+        "step --seed 7 --fuel 8 --heap 9 --print 10 a",
+        "step 8 9 10 7 a",
+    ),
     ("step --seed 7 a --seed 7", "usage"),
     ("step a b", "usage"),
     ("step", "usage"),
@@ -144,5 +153,10 @@ fn lines_by_the_rule(rt: HostRuntime) {
         }
         assert!(rt; got.as_str() == *wanted);
     }
-    assert!(rt; matches!(read_words(rt.alloc(), [].as_slice()), Err(WordsFault::Usage)));
+    assert!(rt;
+        matches!(
+            read_words(rt.alloc(), [].as_slice()),
+            Err(WordsFault::Usage)
+        )
+    );
 }
