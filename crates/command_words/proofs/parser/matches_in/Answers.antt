@@ -1,5 +1,4 @@
 use Rattle.clap.proofs.WalkLemmas.{both}
-use Rattle.command_words.proofs.Numbers.{none_given}
 use Rattle.command_words.proofs.parser.matches_in.Goals as goal
 
 pub returns-in-Ok-clause-rows : goal.returns-in-Ok-clause-rows
