@@ -195,3 +195,11 @@ only_stress words h (command.Types f) i = other_bytes (codes "stress") (codes "t
 only_stress words h (command.Step s n f) i = other_bytes (codes "stress") (codes "step") i.0 refl
 only_stress words h (command.Run s f) i = other_bytes (codes "stress") (codes "run") i.0 refl
 only_stress words h (command.Stress s n k) i = h s n k i
+
+-- ---- a fault of the parser
+
+-- where words are refused for usage, they have a fault
+pub refused : (names words : List Text) (app : App) → app ≡ parser_app names → is_simple_and_free (parser_app names) ≡ true
+    → (is_simple_and_free app ≡ true → fault_of app words ≡ [] → ⊥) → fault_of (parser_app names) words ≡ [] → ⊥
+refused names words app e simple h clean =
+    h (ap (λ (a : App). is_simple_and_free a) e ∙ simple) (ap (λ (a : App). fault_of a words) e ∙ clean)
