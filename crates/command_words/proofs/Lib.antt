@@ -20,3 +20,5 @@ pub mod Whole
 pub mod Numbers
 -- command lines, from what the parser reads
 pub mod Commands
+-- words ask for one command at most
+pub mod OneCommand

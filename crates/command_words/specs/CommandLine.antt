@@ -56,3 +56,14 @@ IsCommandLine (word ∷ words) (command.Stress settings seed n) = (word ≡ code
 -- the words are no command line
 abbrev pub IsUsage : List (List ℕ) → Type 0
 IsUsage words = (c : Command) → IsCommandLine words c → ⊥
+
+-- the same command, a file by its bytes
+abbrev pub IsSame : Command → Command → Type 0
+IsSame (command.Check file) (command.Check other) = string_bytes file ≡ string_bytes other
+IsSame (command.Show file) (command.Show other) = string_bytes file ≡ string_bytes other
+IsSame (command.Casts file) (command.Casts other) = string_bytes file ≡ string_bytes other
+IsSame (command.Types file) (command.Types other) = string_bytes file ≡ string_bytes other
+IsSame (command.Step s seed file) (command.Step t number other) = (s ≡ t) × (seed ≡ number) × (string_bytes file ≡ string_bytes other)
+IsSame (command.Run s file) (command.Run t other) = (s ≡ t) × (string_bytes file ≡ string_bytes other)
+IsSame (command.Stress s seed n) (command.Stress t number m) = (s ≡ t) × (seed ≡ number) × (n ≡ m)
+IsSame _ _ = ⊥

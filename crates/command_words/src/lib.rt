@@ -4,12 +4,14 @@
 
 mod command;
 mod fault;
+mod laws;
 mod number;
 mod parser;
 mod read;
 
 pub use command::Command;
 pub use fault::WordsFault;
+pub use laws::one_command;
 pub use read::read_words;
 
 #[cfg(test)]
