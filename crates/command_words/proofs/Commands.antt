@@ -79,18 +79,31 @@ run_line words rs utf8 m s f i k =
 pub step_line : (words : List Text) (rs : List Row) → AreUtf8 words → Matched step_options words rs → (s : Settings) (n : ℕ) (f : String _) → AreSettingsIn rs s → IsSeedIn rs n
     → IsFileIn rs (string_bytes f) → IsCommandLine (codes "step" ∷ words) (command.Step s n f)
 step_line words rs utf8 m s n f i j k =
-    let r = read_of step_options step_names words rs utf8 m in
-    (refl, k.0, (r.0, give_as (string_bytes f) r.2 k.1,
-    settings_from step_options words r.0 r.1 rs r.2 (inr (inl refl)) (inr (inr (inl refl))) (inr (inr (inr (inl refl)))) s i,
-    number_from step_options words r.0 r.1 rs r.2 (codes "seed") (inl refl) 0 18446744073709551615 0 n j))
+    let r = read_of step_options step_names words rs utf8 m in (
+      refl,
+      k.0,
+      (
+        r.0,
+        give_as (string_bytes f) r.2 k.1,
+        settings_from step_options words r.0 r.1 rs r.2 (inr (inl refl)) (inr (inr (inl refl))) (inr (inr (inr (inl refl)))) s i,
+        number_from step_options words r.0 r.1 rs r.2 (codes "seed") (inl refl) 0 18446744073709551615 0 n j,
+      ),
+    )
 
 pub stress_line : (words : List Text) (rs : List Row) → AreUtf8 words → Matched step_options words rs → (s : Settings) (n t : ℕ) → AreSettingsIn rs s → IsSeedIn rs n
     → AreTasksIn rs t → IsCommandLine (codes "stress" ∷ words) (command.Stress s n t)
 stress_line words rs utf8 m s n t i j k =
-    let r = read_of step_options step_names words rs utf8 m in
-    (refl, k.0, k.1, (r.0, give_as (decimal t) r.2 k.2,
-    settings_from step_options words r.0 r.1 rs r.2 (inr (inl refl)) (inr (inr (inl refl))) (inr (inr (inr (inl refl)))) s i,
-    number_from step_options words r.0 r.1 rs r.2 (codes "seed") (inl refl) 0 18446744073709551615 0 n j))
+    let r = read_of step_options step_names words rs utf8 m in (
+      refl,
+      k.0,
+      k.1,
+      (
+        r.0,
+        give_as (decimal t) r.2 k.2,
+        settings_from step_options words r.0 r.1 rs r.2 (inr (inl refl)) (inr (inr (inl refl))) (inr (inr (inr (inl refl)))) s i,
+        number_from step_options words r.0 r.1 rs r.2 (codes "seed") (inl refl) 0 18446744073709551615 0 n j,
+      ),
+    )
 
 -- ---- and what a command line asks of the rows
 
@@ -137,9 +150,11 @@ pub run_taken : (words : List Text) (s : Settings) (f : String _) → IsCommandL
     → (fault_of (parser_app run_options) words ≡ []) × AreSettingsIn (matches_of (parser_app run_options) words) s
     × IsFileIn (matches_of (parser_app run_options) words) (string_bytes f)
 run_taken words s f (word, named, (os, give, settings)) =
-    let t = given_taken run_options run_names words os (string_bytes f) give (run_plains words os (string_bytes f) give s settings) in
-    (t.0, settings_asked run_options words os (string_bytes f) (matches_of (parser_app run_options) words) t.1 (inl refl) (inr (inl refl)) (inr (inr (inl refl))) s settings,
-    (named, t.1.ends_with))
+    let t = given_taken run_options run_names words os (string_bytes f) give (run_plains words os (string_bytes f) give s settings) in (
+      t.0,
+      settings_asked run_options words os (string_bytes f) (matches_of (parser_app run_options) words) t.1 (inl refl) (inr (inl refl)) (inr (inr (inl refl))) s settings,
+      (named, t.1.ends_with),
+    )
 
 -- what a step's or a stress run's words give is taken
 abbrev StepTaken : List Text → Settings → ℕ → Text → Type 0
@@ -149,9 +164,12 @@ StepTaken words s n l = (fault_of (parser_app step_options) words ≡ []) × Are
 seeded_taken : (words : List Text) (s : Settings) (n : ℕ) (l : Text) (os : List (Text × Text)) → Give step_options words os l → AreSettings os s → IsSeed os n → StepTaken words s n l
 seeded_taken words s n l os give settings seed =
     let t = given_taken step_options step_names words os l give (step_plains words os l give s settings n seed) in
-    let rs = matches_of (parser_app step_options) words in
-    (t.0, settings_asked step_options words os l rs t.1 (inr (inl refl)) (inr (inr (inl refl))) (inr (inr (inr (inl refl)))) s settings,
-    number_asked step_options words os l rs t.1 (codes "seed") (inl refl) 0 18446744073709551615 0 n seed, t.1.ends_with)
+    let rs = matches_of (parser_app step_options) words in (
+      t.0,
+      settings_asked step_options words os l rs t.1 (inr (inl refl)) (inr (inr (inl refl))) (inr (inr (inr (inl refl)))) s settings,
+      number_asked step_options words os l rs t.1 (codes "seed") (inl refl) 0 18446744073709551615 0 n seed,
+      t.1.ends_with,
+    )
 
 pub step_taken : (words : List Text) (s : Settings) (n : ℕ) (f : String _) → IsCommandLine (codes "step" ∷ words) (command.Step s n f)
     → (fault_of (parser_app step_options) words ≡ []) × AreSettingsIn (matches_of (parser_app step_options) words) s

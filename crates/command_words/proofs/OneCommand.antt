@@ -67,9 +67,11 @@ stress_same words s t n m k l i j =
     let a = stress_taken words s n k i in
     let b = stress_taken words t m l j in
     let rs = matches_of (parser_app step_options) words in
-    let same : decimal k ≡ decimal l = cc (sym a.3.2 ∙ b.3.2) in
-    (settings_same rs s t a.1 b.1, number_same (first_of (codes "seed") rs) 0 18446744073709551615 0 n m (omega arith) a.2 b.2,
-    decimal_injective k l (omega (arith, a.3.1)) (omega (arith, b.3.1)) same)
+    let same : decimal k ≡ decimal l = cc (sym a.3.2 ∙ b.3.2) in (
+      settings_same rs s t a.1 b.1,
+      number_same (first_of (codes "seed") rs) 0 18446744073709551615 0 n m (omega arith) a.2 b.2,
+      decimal_injective k l (omega (arith, a.3.1)) (omega (arith, b.3.1)) same,
+    )
 
 one_of : (word : Text) (words : List Text) (c d : Command) → IsCommandLine (word ∷ words) c → IsCommandLine (word ∷ words) d → IsSame c d
 unfolding word_of

@@ -148,14 +148,12 @@ fn asked(alloc: Global, line: &str) -> Result<String, AllocError> {
 fn lines_by_the_rule(rt: HostRuntime) {
     for (line, wanted) in LINES.iter() {
         let got = asked(rt.alloc(), line).expect(&rt, "memory for the texts");
-        if got.as_str() != *wanted {
-            let _ = println!(rt; "{line}: {got}");
-        }
         assert!(rt; got.as_str() == *wanted);
     }
+    let none: Vec<String> = Vec::new(rt.alloc());
     assert!(rt;
         matches!(
-            read_words(rt.alloc(), [].as_slice()),
+            read_words(rt.alloc(), none.as_slice()),
             Err(WordsFault::Usage)
         )
     );
