@@ -1,17 +1,15 @@
 -- Command lines, from what the parser reads of the words behind the command's word.
-use Rattle.std.proofs.Common.{◌≡◌, ◌≢◌, ◌⊎◌, ◌≤◌, ◌<◌, ◌^◌, ◌∙◌, ℕ, Bool, true, false, refl, sym, ap, subst, inl, inr, List, [], ◌∷◌, map, Option, Some, None, codes, arith, decimal, string_bytes, String}
+use Rattle.std.proofs.Common.{◌≡◌, ◌^◌, ◌∙◌, ℕ, true, refl, sym, ap, subst, inl, inr, List, [], ◌∷◌, map, Option, Some, codes, arith, decimal, string_bytes, String}
 use Rattle.std.specs.List.{Contains}
 use Rattle.std.proofs.lemmas.Str.{IsUtf8-string_bytes}
 use Rattle.clap.specs.Walk.{Row, Text, first_of}
-use Rattle.clap.specs.Kinds.{Kinds}
 use Rattle.clap.specs.Simple.{App, matches_of}
 use Rattle.clap.specs.Faults.{fault_of, is_simple_and_free}
 use Rattle.cast_machine.specs.declared.data.Settings.{Settings}
-use Rattle.command_words.specs.Words.{AreOnce, Gives, IsPlain}
+use Rattle.command_words.specs.Words.{AreOnce, IsPlain}
 use Rattle.command_words.specs.CommandLine.{AreSettings, Give, GiveFile, IsCommandLine, IsNumber, IsSeed, IsUsage, run_options, step_options}
-use Rattle.command_words.specs.computed.Parser.{look, parser_app}
+use Rattle.command_words.specs.computed.Parser.{parser_app}
 use Rattle.command_words.specs.computed.Texts.{AreSettingsIn, AreTasksIn, IsFileIn, IsNumberText, IsSeedIn}
-use Rattle.command_words.specs.declared.command.Command.{Command}
 use Rattle.command_words.specs.declared.command.Command.TheVariants as command
 use Rattle.command_words.proofs.Rules.{Among, other_bytes}
 use Rattle.command_words.proofs.Rows.{AreNames}

@@ -1,13 +1,11 @@
 -- The forms of a word: `--`, an option's, letters behind one hyphen, and any other.
-use Rattle.std.proofs.Common.{◌≡◌, ◌≢◌, ◌⊎◌, ◌∙◌, ◌==◌, ◌<◌, ◌+◌, ◌-◌, ℕ, Bool, true, false, zero, suc, refl, subst, sym, ap, inl, inr, List, [], ◌∷◌, ◌++◌, Option, Some, None, get_or, length, arith, slice_get}
+use Rattle.std.proofs.Common.{◌≡◌, ◌≢◌, ◌∙◌, ◌==◌, ℕ, false, zero, suc, refl, subst, sym, ap, inl, inr, List, [], ◌∷◌, ◌++◌, Some, None, arith, slice_get}
 use Rattle.std.specs.Str.{IsUtf8, bytes_eq, chars, encode_utf8_all}
 use Rattle.std.specs.Char.{encode_utf8}
-use Rattle.std.proofs.lemmas.Str.{chars-nil, chars-append, encodes-chars}
+use Rattle.std.proofs.lemmas.Str.{encodes-chars}
 use Rattle.std.proofs.lemmas.Bool.Decides.{nat_tests}
-use Rattle.std.proofs.lemmas.Grind.{common_steps}
-use Rattle.clap.specs.Lexer.{long_of, name_and_value, short_of}
+use Rattle.clap.specs.Lexer.{long_of, short_of}
 use Rattle.clap.proofs.CutLemmas.{Lacks}
-use Rattle.clap.proofs.LexerLemmas.{name_and_value-at, name_and_value-without}
 use Rattle.command_words.specs.Words.{IsPlain}
 use Rattle.command_words.proofs.Rules.{tested}
 

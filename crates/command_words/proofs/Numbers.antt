@@ -1,6 +1,6 @@
 -- Options with numbers as their texts.
-use Rattle.std.proofs.Common.{◌≡◌, ◌≢◌, ◌⊎◌, ◌≤◌, ◌<◌, ◌^◌, ◌∙◌, ◌+◌, ℕ, Bool, true, false, zero, suc, refl, sym, ap, subst, inl, inr, List, [], ◌∷◌, map, length, Option, Some, None, codes, arith, decimal, get_or}
-use Rattle.std.specs.List.{Contains, slice_index_or}
+use Rattle.std.proofs.Common.{◌≡◌, ◌≢◌, ◌≤◌, ◌<◌, ◌^◌, ◌∙◌, ℕ, false, zero, suc, refl, sym, ap, subst, inl, inr, List, [], ◌∷◌, Option, Some, None, arith, decimal, get_or}
+use Rattle.std.specs.List.{Contains}
 use Rattle.std.specs.Str.{bytes_eq}
 use Rattle.std.proofs.lemmas.Fmt.{decimal_digit, first_decimal}
 use Rattle.clap.specs.Walk.{Text}

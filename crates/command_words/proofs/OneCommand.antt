@@ -1,12 +1,12 @@
 -- Words ask for one command at most.
-use Rattle.std.proofs.Common.{◌≡◌, ◌≤◌, ◌<◌, ◌^◌, ◌∙◌, ℕ, refl, sym, List, [], ◌∷◌, Option, Some, None, codes, arith, decimal, string_bytes, String}
+use Rattle.std.proofs.Common.{◌≡◌, ◌<◌, ◌^◌, ◌∙◌, ℕ, refl, sym, List, [], ◌∷◌, Option, Some, None, codes, arith, decimal, string_bytes, String}
 use Rattle.std.proofs.lemmas.Fmt.{decimal_injective}
 use Rattle.clap.specs.Walk.{Row, Text, first_of}
 use Rattle.clap.specs.Simple.{matches_of}
 use Rattle.cast_machine.specs.declared.data.Settings.{Settings}
 use Rattle.command_words.specs.CommandLine.{GiveFile, IsCommandLine, IsSame, run_options, step_options}
 use Rattle.command_words.specs.computed.Parser.{parser_app}
-use Rattle.command_words.specs.computed.Texts.{AreSettingsIn, AreTasksIn, IsNumberText}
+use Rattle.command_words.specs.computed.Texts.{AreSettingsIn, IsNumberText}
 use Rattle.command_words.specs.declared.command.Command.{Command}
 use Rattle.command_words.specs.declared.command.Command.TheVariants as command
 use Rattle.command_words.proofs.Rules.{other_bytes}

@@ -1,16 +1,15 @@
 -- Words that give options and last words, as parts in the order of the words.
-use Rattle.std.proofs.Common.{◌≡◌, ◌≢◌, ◌⊎◌, ◌∙◌, ◌<◌, ℕ, Bool, true, false, zero, suc, refl, sym, ap, subst, inl, inr, List, [], ◌∷◌, ◌++◌, map, length, Option, Some, None, codes, true≢false, arith}
+use Rattle.std.proofs.Common.{◌≡◌, ◌≢◌, ◌∙◌, true, false, zero, suc, refl, sym, ap, subst, inl, inr, List, [], ◌∷◌, ◌++◌, map, Some, None, codes, true≢false, arith}
 use Rattle.std.specs.Prelude.{slice_get}
 use Rattle.command_words.specs.computed.Parser.{look}
-use Rattle.std.specs.List.{Contains, slice_index_or, fold}
+use Rattle.std.specs.List.{Contains, fold}
 use Rattle.std.specs.Str.{IsUtf8, bytes_eq}
-use Rattle.std.proofs.lemmas.List.{append_assoc}
-use Rattle.clap.specs.Walk.{Held, Row, Text, Walk, first_of, has_row, settled, walked}
-use Rattle.clap.specs.Kinds.{Kinds, or_else}
+use Rattle.clap.specs.Walk.{Row, Text, Walk, first_of, has_row, settled, walked}
+use Rattle.clap.specs.Kinds.{or_else}
 use Rattle.clap.specs.Faults.{settle_fault, turn_fault, walk_fault}
-use Rattle.command_words.specs.Words.{AreOnce, Gives, IsAbsent, IsPlain, joined, nothing, option_word, plain, rest, spaced}
-use Rattle.command_words.proofs.Rules.{Among, bytes_same, other_bytes, rules, same_bytes, tested}
-use Rattle.command_words.proofs.Rows.{AreNames, AreOurs, IsFresh, IsName, Part, absent_more, given, held, id_of, last, nil_right, or_else_nil, nil_or_else, present_more, present_new, rows, seen}
+use Rattle.command_words.specs.Words.{AreOnce, Gives, IsAbsent, joined, nothing, plain, rest, spaced}
+use Rattle.command_words.proofs.Rules.{Among, bytes_same, rules, same_bytes, tested}
+use Rattle.command_words.proofs.Rows.{AreNames, IsFresh, Part, absent_more, given, id_of, last, or_else_nil, nil_or_else, present_more, present_new, rows}
 use Rattle.command_words.proofs.Turns.{shape}
 
 -- the parts that the words give, in their order

@@ -1,14 +1,12 @@
 -- What the words gave so far, as the parser's rows, and one more use of an argument.
-use Rattle.std.proofs.Common.{◌≡◌, ◌⊎◌, ◌∙◌, ◌||◌, ◌&&◌, ℕ, Bool, true, false, not, refl, sym, ap, inl, inr, List, [], ◌∷◌, ◌++◌, map, Option, Some, None, codes, true≢false, cond}
-use Rattle.std.proofs.lemmas.List.{append_assoc}
-use Rattle.std.specs.List.{list_all, list_any}
+use Rattle.std.proofs.Common.{◌≡◌, ◌∙◌, ◌||◌, Bool, true, false, refl, sym, ap, inl, inr, List, [], ◌∷◌, ◌++◌, map, Option, Some, None, codes, true≢false}
 use Rattle.std.specs.Str.{bytes_eq}
 use Rattle.clap.specs.Lexer.{long_of}
-use Rattle.clap.specs.Walk.{Held, Row, Rule, Text, arg_by_id, at_row, has_row, more_values, reading_by, settled, settled_rows, used, used_by_id, without}
+use Rattle.clap.specs.Walk.{Held, Row, Rule, Text, arg_by_id, at_row, has_row, more_values, reading_by, settled, used, used_by_id, without}
 use Rattle.clap.specs.Kinds.{Kinds, or_else}
 use Rattle.clap.specs.Faults.{settle_fault, use_fault}
 use Rattle.clap.specs.declared.parser.matches.ValueSource.TheVariants.{CommandLine}
-use Rattle.command_words.proofs.Rules.{Among, tested, bytes_same, id_known, last_by_id, last_read, option_read, rules}
+use Rattle.command_words.proofs.Rules.{Among, tested, id_known, last_by_id, last_read, option_read, rules}
 
 -- an option with its text, or a last word
 pub data Part : Type 0 where

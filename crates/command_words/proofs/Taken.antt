@@ -1,13 +1,13 @@
 -- The parser takes words that give options and last words, each option once and one last word at most.
-use Rattle.std.proofs.Common.{◌≡◌, ◌∙◌, ℕ, Bool, true, false, refl, sym, ap, subst, inl, inr, List, [], ◌∷◌, ◌++◌, map, Option, Some, None, codes}
+use Rattle.std.proofs.Common.{◌≡◌, ◌∙◌, Bool, true, false, ap, List, [], ◌∷◌, ◌++◌, map, Option, Some, None}
 use Rattle.std.specs.Str.{bytes_eq}
 use Rattle.clap.specs.Lexer.{long_of}
-use Rattle.clap.specs.Walk.{Text, Walk, walked}
+use Rattle.clap.specs.Walk.{Text, walked}
 use Rattle.command_words.specs.Words.{Gives, IsPlain, joined, nothing, option_word, plain, rest, spaced}
 use Rattle.clap.specs.Faults.{turn_fault}
 use Rattle.command_words.proofs.Rules.{Among, rules}
-use Rattle.command_words.proofs.Rows.{AreNames, AreOurs, IsFresh, Part, given, held, last, rows, seen, settle_fresh}
-use Rattle.command_words.proofs.Turns.{IsLast, Names, behind, dashes_pass, dashes_walk, joined_passes, joined_walk, last_fault, last_walk, shape, spaced_passes, spaced_walk, stands, unflagged, value_passes, value_walk, waits}
+use Rattle.command_words.proofs.Rows.{AreNames, AreOurs, IsFresh, Part, given, last, rows, seen, settle_fresh}
+use Rattle.command_words.proofs.Turns.{Names, behind, dashes_pass, dashes_walk, joined_passes, joined_walk, last_fault, last_walk, shape, spaced_passes, spaced_walk, stands, unflagged, value_passes, value_walk, waits}
 use Rattle.command_words.proofs.Parts.{AreFresh, Passes, among, ends, ends_next, next_passes, parts_of, walk_none}
 use Rattle.command_words.proofs.Went.{at_end, no_flag, one_more}
 

@@ -1,16 +1,14 @@
 -- What the parser does at a word of each form.
-use Rattle.std.proofs.Common.{◌≡◌, ◌≢◌, ◌⊎◌, ◌∙◌, ◌||◌, ◌&&◌, ℕ, Bool, true, false, not, refl, sym, ap, ap₂, subst, inl, inr, List, [], ◌∷◌, ◌++◌, map, length, Option, Some, None, codes, true≢false, cond, slice_get}
-use Rattle.std.specs.List.{fold, list_any}
+use Rattle.std.proofs.Common.{◌≡◌, ◌≢◌, ◌⊎◌, ◌∙◌, ◌&&◌, ℕ, Bool, true, false, refl, sym, ap, ap₂, inl, inr, List, [], ◌∷◌, ◌++◌, Option, Some, None, codes, slice_get}
 use Rattle.std.specs.Str.{bytes_eq, chars}
 use Rattle.clap.specs.Lexer.{long_of, short_of}
-use Rattle.clap.specs.Walk.{Held, Outcome, Row, Rule, Step, Text, Waiting, Walk, after_flag, after_step, arg_by_id, arg_by_index, arg_by_long, arg_by_short, has_row, idle, is_pending, long_met, option, option_word, plain_word, pushed, positional_held, reacted, settled, to_positional, used, walked, word_met}
-use Rattle.clap.specs.Walk.{next, value}
+use Rattle.clap.specs.Walk.{Held, Row, Rule, Step, Text, Waiting, Walk, after_flag, after_step, arg_by_long, has_row, idle, is_pending, long_met, option, positional_held, reacted, settled, used, walked, word_met}
 use Rattle.clap.specs.Kinds.{Kinds, or_else}
 use Rattle.clap.specs.Simple.{Shape, built}
-use Rattle.clap.specs.Faults.{bundle_fault, flags_fault, long_fault, option_fault, positional_fault, react_fault, settle_fault, step_fault, turn_fault, use_fault, walk_fault, word_fault}
+use Rattle.clap.specs.Faults.{bundle_fault, flags_fault, long_fault, positional_fault, react_fault, settle_fault, step_fault, turn_fault, use_fault, word_fault}
 use Rattle.command_words.specs.computed.Parser.{parser_app}
 use Rattle.command_words.proofs.Forms.{letters_dashes, letters_long, letters_short}
-use Rattle.command_words.proofs.Rules.{Among, bytes_same, first_place, id_known, last_read, long_known, no_letter, option_read, rules, second_place, tested}
+use Rattle.command_words.proofs.Rules.{Among, bytes_same, id_known, last_read, long_known, no_letter, option_read, rules, second_place}
 use Rattle.command_words.proofs.Rows.{AreNames, AreOurs, IsFresh, Part, given, held, last, or_else_nil, nil_or_else, pend, rows, seen, settle_clash, settle_fresh, settled_fresh, use_clash, use_fresh, used_fresh}
 
 abbrev pub shape : List Text → Shape

@@ -1,16 +1,15 @@
 -- Words that the parser takes give options and last words.
-use Rattle.std.proofs.Common.{◌≡◌, ◌≢◌, ◌⊎◌, ◌∙◌, ℕ, Bool, true, false, refl, sym, ap, subst, inl, inr, List, [], ◌∷◌, ◌++◌, map, Option, Some, None, codes}
-use Rattle.std.specs.Str.{IsUtf8, bytes_eq}
+use Rattle.std.proofs.Common.{◌≡◌, ◌≢◌, ◌⊎◌, ◌∙◌, ℕ, Bool, true, false, refl, sym, ap, subst, inl, inr, List, [], ◌∷◌, ◌++◌, map, Option, Some, None}
+use Rattle.std.specs.Str.{IsUtf8}
 use Rattle.std.proofs.lemmas.List.{append_assoc}
 use Rattle.clap.specs.Lexer.{long_of, name_and_value}
-use Rattle.clap.specs.Walk.{Held, Row, Rule, Text, Walk, arg_by_long, has_row, settled, walked}
-use Rattle.clap.specs.Faults.{settle_fault}
+use Rattle.clap.specs.Walk.{Held, Text, Walk, arg_by_long, settled}
 use Rattle.clap.proofs.LexerLemmas.{name_and_value-at, name_and_value-without}
 use Rattle.command_words.specs.Words.{Gives, IsPlain, joined, nothing, option_word, plain, rest, spaced}
 use Rattle.command_words.proofs.Rules.{Among, by_long, option_read, rules}
 use Rattle.command_words.proofs.Rows.{AreNames, AreOurs, IsFresh, Part, given, held, last, nil_right, rows, seen, settle_clash, settled_fresh}
-use Rattle.command_words.proofs.Forms.{Cut, Form, cut, cut_of, form, is_dashes, is_letters, is_option, is_plain, letter_at, option_dashes, plain_dashes, plain_long, plain_short, whole}
-use Rattle.command_words.proofs.Turns.{IsLast, IsNoFlag, Names, behind, behind_lacking, dashes_lacking, dashes_walk, flag_lacking, joined_clash, joined_walk, lacking, last_fault, last_walk, letters_lacking, letters_refused, second_refused, spaced_clash, spaced_walk, stands, unflagged, unknown_refused, value_walk, waits, waits_behind}
+use Rattle.command_words.proofs.Forms.{Cut, Form, cut, cut_of, form, is_dashes, is_letters, is_option, is_plain, letter_at, plain_dashes, plain_long, plain_short, whole}
+use Rattle.command_words.proofs.Turns.{IsNoFlag, Names, behind, behind_lacking, dashes_lacking, dashes_walk, flag_lacking, joined_clash, joined_walk, lacking, last_fault, last_walk, letters_lacking, letters_refused, second_refused, spaced_clash, spaced_walk, stands, unflagged, unknown_refused, value_walk, waits, waits_behind}
 use Rattle.command_words.proofs.Parts.{AreFresh, AreUtf8, Passes, contained, ends, ends_next, parts_of, pass_next}
 
 -- what the words give, after what came before

@@ -1,13 +1,13 @@
 -- The parser as a whole: its walk, what is pending at the end, defaults and what must stand.
-use Rattle.std.proofs.Common.{◌≡◌, ◌⊎◌, ◌∙◌, ◌||◌, ◌&&◌, ℕ, Bool, true, false, not, refl, sym, ap, subst, inl, inr, List, [], ◌∷◌, ◌++◌, map, Option, Some, None, codes}
+use Rattle.std.proofs.Common.{◌≡◌, ◌∙◌, ◌||◌, ◌&&◌, Bool, true, false, not, refl, sym, ap, subst, inl, inr, List, [], ◌∷◌, Some, None, codes}
 use Rattle.std.specs.Prelude.{slice_get}
 use Rattle.std.specs.List.{fold, list_any}
 use Rattle.std.specs.Str.{bytes_eq}
-use Rattle.clap.specs.Walk.{Held, Row, Rule, Text, first_of, has_row, nothing_held, rows_after, settled, walked, with_default}
-use Rattle.clap.specs.Kinds.{Kinds, or_else}
+use Rattle.clap.specs.Walk.{Row, Rule, Text, first_of, has_row, nothing_held, rows_after, settled, walked, with_default}
+use Rattle.clap.specs.Kinds.{or_else}
 use Rattle.clap.specs.Simple.{built, matches_of}
 use Rattle.clap.specs.Takes.{is_given}
-use Rattle.clap.specs.Faults.{check_fault, default_fault, defaults_fault, fault_of, is_simple_and_free, level_fault, settle_fault, walk_fault}
+use Rattle.clap.specs.Faults.{check_fault, defaults_fault, fault_of, is_simple_and_free, level_fault, settle_fault, walk_fault}
 use Rattle.clap.proofs.FaultLemmas.{leaf_fault}
 use Rattle.command_words.specs.Words.{AreOnce, Gives}
 use Rattle.command_words.specs.CommandLine.{Give, run_options, step_options}
@@ -15,8 +15,8 @@ use Rattle.command_words.specs.computed.Parser.{look, parser_app}
 use Rattle.command_words.proofs.Rules.{Among, last_read, option_read, options_read, rules, rules_built, tested}
 use Rattle.command_words.proofs.Rows.{AreNames, IsName, Part, id_of, nil_or_else, or_else_nil, rows}
 use Rattle.command_words.proofs.Turns.{shape, stands}
-use Rattle.command_words.proofs.Parts.{Apart, AreFresh, AreUtf8, LastApart, Passes, ends, fresh_once, last_stands, looked, looked_last, once_fresh, one_last, parts_of}
-use Rattle.command_words.proofs.Went.{Went, went}
+use Rattle.command_words.proofs.Parts.{Apart, AreUtf8, Passes, ends, fresh_once, last_stands, looked, looked_last, once_fresh, one_last, parts_of}
+use Rattle.command_words.proofs.Went.{went}
 use Rattle.command_words.proofs.Taken.{ArePlain, taken}
 
 -- ---- no argument has a default

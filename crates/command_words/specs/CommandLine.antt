@@ -1,5 +1,5 @@
 -- The command line: a command's word, its options, each at most once, and one last word.
-use Rattle.std.specs.Prelude.{◌≡◌, ◌≢◌, ◌⊎◌, ◌≤◌, ◌^◌, ◌-◌, ℕ, List, [], ◌∷◌, Contains, codes, decimal, string_bytes}
+use Rattle.std.specs.Prelude.{◌≡◌, ◌≢◌, ◌⊎◌, ◌≤◌, ◌^◌, ℕ, List, [], ◌∷◌, Contains, codes, decimal, string_bytes}
 use Rattle.cast_machine.specs.declared.data.Settings.{Settings}
 use Rattle.command_words.specs.Words.{Gives, IsAbsent, AreOnce}
 use Rattle.command_words.specs.declared.command.Command.{Command}

@@ -1,5 +1,5 @@
 -- What the words behind a command give: options with their texts, and last words.
-use Rattle.std.specs.Prelude.{◌≡◌, ◌≢◌, ◌⊎◌, ℕ, List, [], ◌∷◌, ◌++◌, Contains}
+use Rattle.std.specs.Prelude.{◌≡◌, ◌≢◌, ℕ, List, [], ◌∷◌, ◌++◌, Contains}
 
 -- an option of this name as a word: `--fuel`
 abbrev pub option_word : List ℕ → List ℕ

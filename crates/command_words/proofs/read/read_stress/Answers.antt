@@ -1,10 +1,10 @@
-use Rattle.std.proofs.Common.{◌≡◌, List, [], ℕ, map, string_bytes, sym, subst}
+use Rattle.std.proofs.Common.{List, map, string_bytes, sym, subst}
 use Rattle.std.proofs.lemmas.Result.{err_from_is_err_and}
 use Rattle.clap.specs.Matches.{found_of}
 use Rattle.clap.specs.Simple.{app_of}
 use Rattle.clap.specs.Walk.{Row, rows_of}
-use Rattle.command_words.specs.CommandLine.{run_options, step_options}
-use Rattle.command_words.specs.computed.Texts.{AreSettingsIn, AreTasksIn, IsFileIn, IsSeedIn}
+use Rattle.command_words.specs.CommandLine.{step_options}
+use Rattle.command_words.specs.computed.Texts.{AreSettingsIn, AreTasksIn, IsSeedIn}
 use Rattle.command_words.proofs.Whole.{step_simple}
 use Rattle.command_words.proofs.Commands.{Matched, matched, only_stress, refused, stress_line, stress_taken, words_utf8}
 use Rattle.command_words.proofs.read.read_stress.Goals as goal
