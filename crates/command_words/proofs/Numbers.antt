@@ -8,11 +8,8 @@ use Rattle.command_words.specs.Words.{AreOnce, Gives, IsAbsent, IsPlain, joined,
 use Rattle.command_words.specs.CommandLine.{IsNumber}
 use Rattle.command_words.specs.computed.Parser.{look}
 use Rattle.command_words.specs.computed.Texts.{IsNumberText}
-use Rattle.command_words.proofs.Rules.{bytes_same, same_bytes, tested}
+use Rattle.command_words.proofs.Rules.{bytes_same, different, same_bytes, tested}
 use Rattle.command_words.proofs.Taken.{ArePlain}
-
-different : (m n : Text) → m ≢ n → bytes_eq m n ≡ false
-different m n ne = elim (tested (bytes_eq m n)) [ inl e ↦ absurd (ne (same_bytes m n e)) | inr e ↦ e ]
 
 -- ---- what is looked up
 
@@ -58,14 +55,16 @@ contains_look name t (o ∷ os) once (suc k, lt, is) =
 
 -- ---- numbers
 
-pub text_number : (name : Text) (least most default : ℕ) (os : List (Text × Text)) (n : ℕ) → IsNumberText (look name os) least most default n → IsNumber name least most default os n
+pub text_number : (name : Text) (least most default : ℕ) (os : List (Text × Text)) (n : ℕ)
+    → IsNumberText (look name os) least most default n → IsNumber name least most default os n
 text_number name least most default os n h = go (look name os) refl h
   where
     go : (o : Option Text) → look name os ≡ o → IsNumberText o least most default n → IsNumber name least most default os n
     go None e k = inr (look_absent name os e, k)
     go (Some t) e k = inl (k.0, k.1, look_contains name (decimal n) os (e ∙ ap (λ (u : Text). Some u) k.2))
 
-pub number_text : (name : Text) (least most default : ℕ) (os : List (Text × Text)) (n : ℕ) → AreOnce os → IsNumber name least most default os n → IsNumberText (look name os) least most default n
+pub number_text : (name : Text) (least most default : ℕ) (os : List (Text × Text)) (n : ℕ) → AreOnce os
+    → IsNumber name least most default os n → IsNumberText (look name os) least most default n
 number_text name least most default os n once (inl h) =
     subst (λ (o : Option Text). IsNumberText o least most default n) (sym (contains_look name (decimal n) os once h.2)) (h.0, h.1, refl)
 number_text name least most default os n once (inr h) =
@@ -82,7 +81,8 @@ decimal_plain : (n : ℕ) → n < 2 ^ 64 → IsPlain (decimal n)
 decimal_plain zero h = subst (λ (t : Text). IsPlain t) (sym (decimal_digit 0 (omega arith))) tt
 decimal_plain (suc n) h = plain_first (decimal (suc n)) (omega (arith, first_decimal (suc n) (omega arith) h))
 
-pub number_plain : (name : Text) (least most default : ℕ) (os : List (Text × Text)) (n : ℕ) → most < 2 ^ 64 → AreOnce os → IsNumber name least most default os n
+pub number_plain : (name : Text) (least most default : ℕ) (os : List (Text × Text)) (n : ℕ) → most < 2 ^ 64 → AreOnce os
+    → IsNumber name least most default os n
     → (t : Text) → Contains os (name, t) → IsPlain t
 number_plain name least most default os n fits once (inl h) t c =
     let same : decimal n ≡ t = cc (sym (contains_look name (decimal n) os once h.2) ∙ contains_look name t os once c) in
@@ -95,7 +95,8 @@ each_plain (o ∷ os) h = (h o (0, omega arith, refl), each_plain os (λ x c. h 
 
 -- ---- each option is one of the names
 
-pub gives_known : {names words : List Text} {os : List (Text × Text)} {ls : List Text} → Gives names words os ls → (o : Text × Text) → Contains os o → Contains names o.0
+pub gives_known : {names words : List Text} {os : List (Text × Text)} {ls : List Text} → Gives names words os ls → (o : Text × Text)
+    → Contains os o → Contains names o.0
 gives_known nothing o c = absurd (omega (arith, c.1))
 gives_known {names} (spaced known e g) o (zero, lt, is) = subst (λ (q : Text × Text). Contains names q.0) is known
 gives_known (spaced known e g) o (suc k, lt, is) = gives_known g o (k, omega arith, is)

@@ -12,7 +12,8 @@ use Rattle.command_words.specs.declared.command.Command.TheVariants as command
 use Rattle.command_words.proofs.Rules.{other_bytes}
 use Rattle.command_words.proofs.Commands.{file_taken, run_taken, step_taken, stress_taken}
 
-number_same : (o : Option Text) (least most default a b : ℕ) → most < 2 ^ 64 → IsNumberText o least most default a → IsNumberText o least most default b → a ≡ b
+number_same : (o : Option Text) (least most default a b : ℕ) → most < 2 ^ 64 → IsNumberText o least most default a
+    → IsNumberText o least most default b → a ≡ b
 number_same None least most default a b fits h k = h ∙ sym k
 number_same (Some t) least most default a b fits h k = decimal_injective a b (omega (arith, h.1)) (omega (arith, k.1)) (sym h.2 ∙ k.2)
 
@@ -51,8 +52,12 @@ step_same : (words : List Text) (s t : Settings) (n m : ℕ) (f g : String _) �
 step_same words s t n m f g i j =
     let a = step_taken words s n f i in
     let b = step_taken words t m g j in
-    let rs = matches_of (parser_app step_options) words in
-    (settings_same rs s t a.1 b.1, number_same (first_of (codes "seed") rs) 0 18446744073709551615 0 n m (omega arith) a.2 b.2, cc (sym a.3.1 ∙ b.3.1))
+    let rs = matches_of (parser_app step_options) words in (
+      settings_same rs s t a.1 b.1,
+      number_same (first_of (codes "seed") rs) 0 18446744073709551615 0 n m (omega arith) a.2 b.2,
+      cc
+          (sym a.3.1 ∙ b.3.1),
+    )
 
 run_same : (words : List Text) (s t : Settings) (f g : String _) → IsCommandLine (codes "run" ∷ words) (command.Run s f)
     → IsCommandLine (codes "run" ∷ words) (command.Run t g) → IsSame (command.Run s f) (command.Run t g)
@@ -81,7 +86,8 @@ one_of word words (command.Casts f) (command.Casts g) i j = file_same words (str
 one_of word words (command.Types f) (command.Types g) i j = file_same words (string_bytes f) (string_bytes g) i.1 j.1
 one_of word words (command.Step s n f) (command.Step t m g) i j = step_same words s t n m f g (refl, i.1, i.2) (refl, j.1, j.2)
 one_of word words (command.Run s f) (command.Run t g) i j = run_same words s t f g (refl, i.1, i.2) (refl, j.1, j.2)
-one_of word words (command.Stress s n k) (command.Stress t m l) i j = stress_same words s t n m k l (refl, i.1, i.2, i.3) (refl, j.1, j.2, j.3)
+one_of word words (command.Stress s n k) (command.Stress t m l) i j = stress_same words s t n m k l (refl, i.1, i.2, i.3)
+    (refl, j.1, j.2, j.3)
 one_of word words c d i j = other_bytes (word_of c) (word_of d) (sym (line_word word words c i) ∙ line_word word words d j) refl
 
 pub one_command : (words : List Text) (c d : Command) → IsCommandLine words c → IsCommandLine words d → IsSame c d

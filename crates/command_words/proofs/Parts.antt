@@ -8,7 +8,7 @@ use Rattle.clap.specs.Walk.{Row, Text, Walk, first_of, has_row, settled, walked}
 use Rattle.clap.specs.Kinds.{or_else}
 use Rattle.clap.specs.Faults.{settle_fault, turn_fault, walk_fault}
 use Rattle.command_words.specs.Words.{AreOnce, Gives, IsAbsent, joined, nothing, plain, rest, spaced}
-use Rattle.command_words.proofs.Rules.{Among, bytes_same, rules, same_bytes, tested}
+use Rattle.command_words.proofs.Rules.{Among, bytes_same, different, rules, tested}
 use Rattle.command_words.proofs.Rows.{AreNames, IsFresh, Part, absent_more, given, id_of, last, or_else_nil, nil_or_else, present_more, present_new, rows}
 use Rattle.command_words.proofs.Turns.{shape}
 
@@ -52,7 +52,8 @@ abbrev pub ends : List Text → Walk → List Text → List Row
 ends names w words = (settled (rules names) (fold (walked (rules names) []) w words).held).rows
 
 walk_more : (names : List Text) (w : Walk) (word : Text) (words : List Text)
-    → walk_fault (shape names) [] w (word ∷ words) ≡ or_else (turn_fault (shape names) [] w word) (walk_fault (shape names) [] (walked (rules names) [] w word) words)
+    → walk_fault (shape names) [] w (word ∷ words) ≡ or_else (turn_fault (shape names) [] w word)
+    (walk_fault (shape names) [] (walked (rules names) [] w word) words)
 unfolding walk_fault
 walk_more names w word words = refl
 
@@ -63,7 +64,8 @@ walk_none names w = refl
 pub pass_next : (names : List Text) (w after : Walk) (word : Text) (words : List Text) → Passes names w (word ∷ words)
     → (turn_fault (shape names) [] w word ≡ []) × ((walked (rules names) [] w word ≡ after) → Passes names after words)
 pass_next names w after word words h =
-    let both = or_else_nil (turn_fault (shape names) [] w word) (walk_fault (shape names) [] (walked (rules names) [] w word) words) (sym (walk_more names w word words) ∙ h.walk) in
+    let both = or_else_nil (turn_fault (shape names) [] w word) (walk_fault (shape names) [] (walked (rules names) [] w word) words)
+    (sym (walk_more names w word words) ∙ h.walk) in
     (both.0, λ e. subst (λ (v : Walk). Passes names v words) e (record { walk = both.1; settle = h.settle }))
 
 pub next_passes : (names : List Text) (w after : Walk) (word : Text) (words : List Text) → turn_fault (shape names) [] w word ≡ []
@@ -71,7 +73,8 @@ pub next_passes : (names : List Text) (w after : Walk) (word : Text) (words : Li
 next_passes names w after word words turn e h =
     let p : Passes names (walked (rules names) [] w word) words = subst (λ (v : Walk). Passes names v words) (sym e) h in
     record {
-      walk = walk_more names w word words ∙ nil_or_else (turn_fault (shape names) [] w word) (walk_fault (shape names) [] (walked (rules names) [] w word) words) turn p.walk;
+      walk = walk_more names w word words ∙ nil_or_else (turn_fault (shape names) [] w word)
+          (walk_fault (shape names) [] (walked (rules names) [] w word) words) turn p.walk;
       settle = p.settle;
     }
 
@@ -81,7 +84,8 @@ ends_next names w after word words e = ap (λ (v : Walk). ends names v words) e
 
 -- ---- what is given once
 
-pub fresh_absent : {names words : List Text} {os : List (Text × Text)} {ls : List Text} (g : Gives names words os ls) (xs : List Part) (n : Text)
+pub fresh_absent : {names words : List Text} {os : List (Text × Text)} {ls : List Text} (g : Gives names words os ls) (xs : List Part)
+    (n : Text)
     → has_row n (rows xs) ≡ true → AreFresh xs (parts_of g) → IsAbsent n os
 fresh_absent nothing xs n h f = tt
 fresh_absent (spaced {name = m} {text = t} known e g) xs n h f = (
@@ -98,10 +102,16 @@ fresh_absent (rest e) xs n h f = tt
 pub fresh_once : {names words : List Text} {os : List (Text × Text)} {ls : List Text} (g : Gives names words os ls) (xs : List Part)
     → AreFresh xs (parts_of g) → AreOnce os
 fresh_once nothing xs f = tt
-fresh_once (spaced {name = m} {text = t} known e g) xs f =
-    (fresh_absent g (xs ++ given m t ∷ []) m (present_new m xs (given m t) (bytes_same m m refl)) f.1, fresh_once g (xs ++ given m t ∷ []) f.1)
-fresh_once (joined {name = m} {text = t} known e g) xs f =
-    (fresh_absent g (xs ++ given m t ∷ []) m (present_new m xs (given m t) (bytes_same m m refl)) f.1, fresh_once g (xs ++ given m t ∷ []) f.1)
+fresh_once (spaced {name = m} {text = t} known e g) xs f = (
+  fresh_absent g (xs ++ given m t ∷ []) m (present_new m xs (given m t) (bytes_same m m refl)) f.1,
+  fresh_once g
+      (xs ++ given m t ∷ []) f.1,
+)
+fresh_once (joined {name = m} {text = t} known e g) xs f = (
+  fresh_absent g (xs ++ given m t ∷ []) m (present_new m xs (given m t) (bytes_same m m refl)) f.1,
+  fresh_once g
+      (xs ++ given m t ∷ []) f.1,
+)
 fresh_once (plain {word = w} p g) xs f = fresh_once g (xs ++ last w ∷ []) f.1
 fresh_once (rest e) xs f = tt
 
@@ -112,17 +122,25 @@ rest_last (w ∷ ws) xs h f = absurd (true≢false (sym h ∙ f.0))
 pub fresh_last : {names words : List Text} {os : List (Text × Text)} {ls : List Text} (g : Gives names words os ls) (xs : List Part)
     → has_row (codes "last") (rows xs) ≡ true → AreFresh xs (parts_of g) → ls ≡ []
 fresh_last nothing xs h f = refl
-fresh_last (spaced {name = m} {text = t} known e g) xs h f = fresh_last g (xs ++ given m t ∷ []) (present_more (codes "last") xs (given m t) h) f.1
-fresh_last (joined {name = m} {text = t} known e g) xs h f = fresh_last g (xs ++ given m t ∷ []) (present_more (codes "last") xs (given m t) h) f.1
+fresh_last (spaced {name = m} {text = t} known e g) xs h f = fresh_last g (xs ++ given m t ∷ [])
+    (present_more (codes "last") xs (given m t) h) f.1
+fresh_last (joined {name = m} {text = t} known e g) xs h f = fresh_last g (xs ++ given m t ∷ [])
+    (present_more (codes "last") xs (given m t) h) f.1
 fresh_last (plain {word = w} p g) xs h f = absurd (true≢false (sym h ∙ f.0))
 fresh_last (rest {words = ws} e) xs h f = rest_last ws xs h f
 
-rest_one : (ws : List Text) (xs : List Part) → AreFresh xs (map last ws) → has_row (codes "last") (rows (map last ws)) ≡ true → (l : Text) × (ws ≡ l ∷ [])
+rest_one : (ws : List Text) (xs : List Part) → AreFresh xs (map last ws) → has_row (codes "last") (rows (map last ws)) ≡ true
+    → (l : Text) × (ws ≡ l ∷ [])
 rest_one [] xs f h = absurd (true≢false (sym h))
-rest_one (w ∷ ws) xs f h = (w, ap (λ (r : List Text). w ∷ r) (rest_last ws (xs ++ last w ∷ []) (present_new (codes "last") xs (last w) refl) f.1))
+rest_one (w ∷ ws) xs f h = (
+  w,
+  ap (λ (r : List Text). w ∷ r)
+      (rest_last ws (xs ++ last w ∷ []) (present_new (codes "last") xs (last w) refl) f.1),
+)
 
 -- a last word that stands is the only one
-pub one_last : {names words : List Text} {os : List (Text × Text)} {ls : List Text} (g : Gives names words os ls) (xs : List Part) → AreNames names
+pub one_last : {names words : List Text} {os : List (Text × Text)} {ls : List Text} (g : Gives names words os ls) (xs : List Part)
+    → AreNames names
     → AreFresh xs (parts_of g) → has_row (codes "last") (rows (parts_of g)) ≡ true → (l : Text) × (ls ≡ l ∷ [])
 one_last nothing xs ok f h = absurd (true≢false (sym h))
 one_last {names} (spaced {name = m} {text = t} known e g) xs ok f h =
@@ -151,14 +169,12 @@ abbrev Differs : Text → List (Text × Text) → Type 0
 Differs n [] = Unit {0}
 Differs n (o ∷ os) = (bytes_eq n o.0 ≡ false) × Differs n os
 
-different : (m n : Text) → m ≢ n → bytes_eq m n ≡ false
-different m n ne = elim (tested (bytes_eq m n)) [ inl e ↦ absurd (ne (same_bytes m n e)) | inr e ↦ e ]
-
 absent_differs : (n : Text) (os : List (Text × Text)) → IsAbsent n os → Differs n os
 absent_differs n [] h = tt
 absent_differs n (o ∷ os) h = (different n o.0 h.0, absent_differs n os h.1)
 
-last_differs : {names words : List Text} {os : List (Text × Text)} {ls : List Text} → Gives names words os ls → AreNames names → Differs (codes "last") os
+last_differs : {names words : List Text} {os : List (Text × Text)} {ls : List Text} → Gives names words os ls → AreNames names
+    → Differs (codes "last") os
 last_differs nothing ok = tt
 last_differs {names} (spaced {name = m} known e g) ok = ((ok m (among names m known)).last_not, last_differs g ok)
 last_differs {names} (joined {name = m} known e g) ok = ((ok m (among names m known)).last_not, last_differs g ok)
@@ -169,7 +185,8 @@ apart_more : (os : List (Text × Text)) (xs : List Part) (x : Part) → Apart xs
 apart_more [] xs x a d = tt
 apart_more (o ∷ os) xs x a d = (absent_more o.0 xs x a.0 d.0, apart_more os xs x a.1 d.1)
 
-last_apart_more : (ls : List Text) (xs : List Part) (x : Part) → LastApart xs ls → bytes_eq (id_of x) (codes "last") ≡ false → LastApart (xs ++ x ∷ []) ls
+last_apart_more : (ls : List Text) (xs : List Part) (x : Part) → LastApart xs ls → bytes_eq (id_of x) (codes "last") ≡ false
+    → LastApart (xs ++ x ∷ []) ls
 last_apart_more [] xs x a e = tt
 last_apart_more (l ∷ ls) xs x a e = absent_more (codes "last") xs x a e
 
@@ -185,7 +202,8 @@ rest_fresh (w ∷ ws) xs a one = (a, go ws one)
     go [] e = tt
     go (r ∷ rs) e = absurd (cc e)
 
-pub once_fresh : {names words : List Text} {os : List (Text × Text)} {ls : List Text} (g : Gives names words os ls) (xs : List Part) → AreNames names
+pub once_fresh : {names words : List Text} {os : List (Text × Text)} {ls : List Text} (g : Gives names words os ls) (xs : List Part)
+    → AreNames names
     → Apart xs os → LastApart xs ls → AreOnce os → IsOneLast ls → AreFresh xs (parts_of g)
 once_fresh nothing xs ok a b once one = tt
 once_fresh {names} (spaced {name = m} {text = t} {options = os} {last = ls} known e g) xs ok a b once one = (
@@ -209,11 +227,14 @@ rest_absent : (n : Text) (ws : List Text) → bytes_eq (codes "last") n ≡ fals
 rest_absent n [] e = refl
 rest_absent n (w ∷ ws) e = rw e (rest_absent n ws e)
 
-pub looked : {names words : List Text} {os : List (Text × Text)} {ls : List Text} (g : Gives names words os ls) (n : Text) → AreNames names → Among names n
+pub looked : {names words : List Text} {os : List (Text × Text)} {ls : List Text} (g : Gives names words os ls) (n : Text)
+    → AreNames names → Among names n
     → first_of n (rows (parts_of g)) ≡ look n os
 looked nothing n ok known = refl
-looked (spaced {name = m} k e g) n ok known = elim (tested (bytes_eq m n)) [ inl hit ↦ rw hit refl | inr miss ↦ rw miss (looked g n ok known) ]
-looked (joined {name = m} k e g) n ok known = elim (tested (bytes_eq m n)) [ inl hit ↦ rw hit refl | inr miss ↦ rw miss (looked g n ok known) ]
+looked (spaced {name = m} k e g) n ok known = elim (tested (bytes_eq m n))
+    [ inl hit ↦ rw hit refl | inr miss ↦ rw miss (looked g n ok known) ]
+looked (joined {name = m} k e g) n ok known = elim (tested (bytes_eq m n))
+    [ inl hit ↦ rw hit refl | inr miss ↦ rw miss (looked g n ok known) ]
 looked (plain p g) n ok known = rw ((ok n known).last_not) (looked g n ok known)
 looked (rest {words = ws} e) n ok known = rest_absent n ws (ok n known).last_not
 
@@ -226,7 +247,8 @@ looked_last (plain p g) ok = refl
 looked_last (rest {words = []} e) ok = refl
 looked_last (rest {words = w ∷ ws} e) ok = refl
 
-pub last_stands : {names words : List Text} {os : List (Text × Text)} {ls : List Text} (g : Gives names words os ls) (l : Text) → AreNames names → ls ≡ l ∷ []
+pub last_stands : {names words : List Text} {os : List (Text × Text)} {ls : List Text} (g : Gives names words os ls) (l : Text)
+    → AreNames names → ls ≡ l ∷ []
     → has_row (codes "last") (rows (parts_of g)) ≡ true
 last_stands nothing l ok e = absurd (cc e)
 last_stands {names} (spaced {name = m} known f g) l ok e = rw ((ok m (among names m known)).not_last) (last_stands g l ok e)

@@ -77,7 +77,8 @@ pub rows_more : (xs ys : List Part) → rows (xs ++ ys) ≡ rows xs ++ rows ys
 rows_more [] ys = refl
 rows_more (x ∷ xs) ys = ap (λ rest. row_at x ∷ rest) (rows_more xs ys)
 
-at_none : (id : Text) (change : Row → List Row) (missing rs : List Row) → has_row id rs ≡ false → at_row id change missing rs ≡ rs ++ missing
+at_none : (id : Text) (change : Row → List Row) (missing rs : List Row) → has_row id rs ≡ false
+    → at_row id change missing rs ≡ rs ++ missing
 at_none id change missing [] e = refl
 at_none id change missing (r ∷ rs) e =
     let both = or_false (bytes_eq r.id id) (has_row id rs) e in
@@ -87,7 +88,8 @@ without_none : (id : Text) (rs : List Row) → has_row id rs ≡ false → witho
 without_none id rs e = at_none id (λ _. []) [] rs e ∙ nil_right rs
 
 -- no row of this id, after one more part
-pub absent_more : (id : Text) (xs : List Part) (x : Part) → has_row id (rows xs) ≡ false → bytes_eq (id_of x) id ≡ false → has_row id (rows (xs ++ x ∷ [])) ≡ false
+pub absent_more : (id : Text) (xs : List Part) (x : Part) → has_row id (rows xs) ≡ false → bytes_eq (id_of x) id ≡ false
+    → has_row id (rows (xs ++ x ∷ [])) ≡ false
 absent_more id [] x e f = rw f refl
 absent_more id (y ∷ xs) x e f =
     let both = or_false (bytes_eq (id_of y) id) (has_row id (rows xs)) e in
@@ -117,11 +119,14 @@ pub use_clash : (x : Part) (rs : List Row) → use_fault false (rule_at x) (text
 use_clash (given n t) rs e = elim (tested (has_row n rs)) [ inl bad ↦ absurd (cc (rw bad at e)) | inr good ↦ good ]
 use_clash (last t) rs e = elim (tested (has_row (codes "last") rs)) [ inl bad ↦ absurd (cc (rw bad at e)) | inr good ↦ good ]
 
-pub used_fresh : (x : Part) (xs : List Part) → has_row (id_of x) (rows xs) ≡ false → used (rule_at x) (text_of x ∷ []) (rows xs) ≡ rows (xs ++ x ∷ [])
+pub used_fresh : (x : Part) (xs : List Part) → has_row (id_of x) (rows xs) ≡ false
+    → used (rule_at x) (text_of x ∷ []) (rows xs) ≡ rows (xs ++ x ∷ [])
 used_fresh (given n t) xs e =
-    rw (without_none n (rows xs) e) (at_none n (more_values CommandLine (t ∷ [])) (row_at (given n t) ∷ []) (rows xs) e ∙ sym (rows_more xs (given n t ∷ [])))
+    rw (without_none n (rows xs) e) (at_none n (more_values CommandLine (t ∷ [])) (row_at (given n t) ∷ []) (rows xs) e
+    ∙ sym (rows_more xs (given n t ∷ [])))
 used_fresh (last t) xs e =
-    rw (without_none (codes "last") (rows xs) e) (at_none (codes "last") (more_values CommandLine (t ∷ [])) (row_at (last t) ∷ []) (rows xs) e ∙ sym (rows_more xs (last t ∷ [])))
+    rw (without_none (codes "last") (rows xs) e) (at_none (codes "last") (more_values CommandLine (t ∷ [])) (row_at (last t) ∷ [])
+    (rows xs) e ∙ sym (rows_more xs (last t ∷ [])))
 
 -- ---- what is pending is used
 
@@ -148,15 +153,18 @@ rule_found : (names : List Text) → AreNames names → (x : Part) → IsOurs na
 rule_found names ok (given n t) ours = id_known names n ours (ok n ours).last_not
 rule_found names ok (last t) ours = last_by_id names
 
-pub settle_fresh : (names : List Text) → AreNames names → (xs : List Part) (p : Option Part) → AreOurs names p → IsFresh xs p → settle_fault (rules names) false (held xs p) ≡ []
+pub settle_fresh : (names : List Text) → AreNames names → (xs : List Part) (p : Option Part) → AreOurs names p → IsFresh xs p
+    → settle_fault (rules names) false (held xs p) ≡ []
 settle_fresh names ok xs None ours fresh = refl
 settle_fresh names ok xs (Some x) ours fresh = rw (rule_found names ok x ours) (use_fresh x (rows xs) fresh)
 
-pub settle_clash : (names : List Text) → AreNames names → (xs : List Part) (p : Option Part) → AreOurs names p → settle_fault (rules names) false (held xs p) ≡ [] → IsFresh xs p
+pub settle_clash : (names : List Text) → AreNames names → (xs : List Part) (p : Option Part) → AreOurs names p
+    → settle_fault (rules names) false (held xs p) ≡ [] → IsFresh xs p
 settle_clash names ok xs None ours e = tt
 settle_clash names ok xs (Some x) ours e = use_clash x (rows xs) (rw (rule_found names ok x ours) at e)
 
-pub settled_fresh : (names : List Text) → AreNames names → (xs : List Part) (p : Option Part) → AreOurs names p → IsFresh xs p → settled (rules names) (held xs p) ≡ held (seen xs p) None
+pub settled_fresh : (names : List Text) → AreNames names → (xs : List Part) (p : Option Part) → AreOurs names p → IsFresh xs p
+    → settled (rules names) (held xs p) ≡ held (seen xs p) None
 settled_fresh names ok xs None ours fresh = refl
 settled_fresh names ok xs (Some x) ours fresh = ap (λ (rs : List Row). record { rows = rs; pending = None; skip = 0 })
     (ap (λ (o : Option Rule). used_by_id o (text_of x ∷ []) (rows xs)) (rule_found names ok x ours) ∙ used_fresh x xs fresh)

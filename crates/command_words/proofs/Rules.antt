@@ -1,5 +1,5 @@
 -- The parser's rules after building, and which of them answers to a name, a letter or a place.
-use Rattle.std.proofs.Common.{◌≡◌, ◌⊎◌, ◌∙◌, ℕ, Bool, true, false, refl, sym, ap, inl, inr, List, [], ◌∷◌, map, Some, None, codes, true≢false}
+use Rattle.std.proofs.Common.{◌≡◌, ◌≢◌, ◌⊎◌, ◌∙◌, ℕ, Bool, true, false, refl, sym, ap, inl, inr, List, [], ◌∷◌, map, Some, None, codes, true≢false}
 use Rattle.std.specs.Str.{bytes_eq}
 use Rattle.std.proofs.lemmas.Slice.Eq.{bytes_eq-Decides}
 use Rattle.clap.specs.Walk.{Rule, Text, arg_by_id, arg_by_index, arg_by_long, arg_by_short}
@@ -24,6 +24,9 @@ bytes_same a b e = (bytes_eq-Decides a b).1 e
 
 pub other_bytes : {X : Type 0} (a b : Text) → a ≡ b → bytes_eq a b ≡ false → X
 other_bytes a b e f = absurd (true≢false (sym (bytes_same a b e) ∙ f))
+
+pub different : (m n : Text) → m ≢ n → bytes_eq m n ≡ false
+different m n ne = elim (tested (bytes_eq m n)) [ inl e ↦ absurd (ne (same_bytes m n e)) | inr e ↦ e ]
 
 -- an option, and the last word, once they are built
 abbrev pub option_read : Text → Rule
@@ -52,7 +55,8 @@ long_hit m n rest e = rw e refl
 long_miss : (m n : Text) (rest : List Rule) → bytes_eq m n ≡ false → arg_by_long (option_read m ∷ rest) n ≡ arg_by_long rest n
 long_miss m n rest e = rw e refl
 
-pub by_long : (names : List Text) (n : Text) → (arg_by_long (rules names) n ≡ None) ⊎ (Among names n × (arg_by_long (rules names) n ≡ Some (option_read n)))
+pub by_long : (names : List Text) (n : Text) → (arg_by_long (rules names) n ≡ None) ⊎
+    (Among names n × (arg_by_long (rules names) n ≡ Some (option_read n)))
 by_long [] n = inl refl
 by_long (m ∷ names) n = elim (tested (bytes_eq m n)) [
   | inl e ↦ let same : m ≡ n = same_bytes m n e in
@@ -90,7 +94,8 @@ option_by_id (m ∷ names) n known = elim (tested (bytes_eq m n)) [
   ]
 ]
 
-pub id_known : (names : List Text) (n : Text) → Among names n → bytes_eq (codes "last") n ≡ false → arg_by_id (rules names) n ≡ Some (option_read n)
+pub id_known : (names : List Text) (n : Text) → Among names n → bytes_eq (codes "last") n ≡ false
+    → arg_by_id (rules names) n ≡ Some (option_read n)
 id_known names n known other = rw other (option_by_id names n known)
 
 pub last_by_id : (names : List Text) → arg_by_id (rules names) (codes "last") ≡ Some last_read

@@ -36,7 +36,8 @@ BehindClaim names words = (xs : List Part) (p : Option Part) (b : Bool) → AreO
 
 pub at_end : (names : List Text) → AreNames names → (xs : List Part) (p : Option Part) → AreOurs names p → IsFresh xs p
     → (settled (rules names) (held xs p)).rows ≡ rows (seen xs p ++ [])
-at_end names ok xs p ours fresh = ap (λ (h : Held). h.rows) (settled_fresh names ok xs p ours fresh) ∙ ap (λ (zs : List Part). rows zs) (sym (nil_right (seen xs p)))
+at_end names ok xs p ours fresh = ap (λ (h : Held). h.rows) (settled_fresh names ok xs p ours fresh)
+    ∙ ap (λ (zs : List Part). rows zs) (sym (nil_right (seen xs p)))
 
 behind_goes : (names : List Text) → AreNames names → (words : List Text) → BehindClaim names words
 behind_goes names ok [] xs p b ours h =
@@ -59,7 +60,8 @@ behind_goes names ok (word ∷ words) xs p false ours h =
 -- ---- before it
 
 abbrev Claim : List Text → List Text → Type 0
-Claim names words = (xs : List Part) (p : Option Part) (b : Bool) → AreOurs names p → AreUtf8 words → Passes names (stands xs p b false) words
+Claim names words = (xs : List Part) (p : Option Part) (b : Bool) → AreOurs names p → AreUtf8 words
+    → Passes names (stands xs p b false) words
     → Went names xs p (stands xs p b false) words
 
 claim_nothing : (names : List Text) → AreNames names → Claim names []
@@ -67,7 +69,8 @@ claim_nothing names ok xs p b ours utf8 h =
     let fresh = settle_clash names ok xs p ours h.settle in
     record { options = []; lasts = []; gives = nothing; fresh = fresh; more = tt; rows_are = at_end names ok xs p ours fresh }
 
-claim_plain : (names : List Text) → AreNames names → (word : Text) (words : List Text) → IsPlain word → Claim names words → Claim names (word ∷ words)
+claim_plain : (names : List Text) → AreNames names → (word : Text) (words : List Text) → IsPlain word → Claim names words
+    → Claim names (word ∷ words)
 claim_plain names ok word words is ih xs p false ours utf8 h =
     let next = pass_next names (stands xs p false false) (stands xs p false false) word words h in
     absurd (second_refused names xs p false word (unflagged (no_flag word is)) next.0)
@@ -101,7 +104,8 @@ claim_dashes names ok words xs p b ours utf8 h =
       rows_are = ends_next names (stands xs p b false) (stands xs p b true) (45 ∷ 45 ∷ []) words step ∙ w.2;
     }
 
-claim_joined : (names : List Text) → AreNames names → (word n v : Text) (words : List Text) → Names names word n (Some v) → word ≡ option_word n ++ 61 ∷ v
+claim_joined : (names : List Text) → AreNames names → (word n v : Text) (words : List Text) → Names names word n (Some v)
+    → word ≡ option_word n ++ 61 ∷ v
     → Claim names words → Claim names (word ∷ words)
 claim_joined names ok word n v words i e ih xs p b ours utf8 h =
     let next = pass_next names (stands xs p b false) (stands (seen xs p ++ given n v ∷ []) None b false) word words h in
@@ -125,36 +129,42 @@ no_value_behind names ok xs n b [] known h = lacking names ok xs n known h.settl
 no_value_behind names ok xs n b (word ∷ words) known h =
     behind_lacking names ok xs n b word known (pass_next names (waits_behind xs n b) (waits_behind xs n b) word words h).0
 
-no_value_dashes : (names : List Text) → AreNames names → (xs : List Part) (n : Text) (b : Bool) (word : Text) (words : List Text) → Among names n
+no_value_dashes : (names : List Text) → AreNames names → (xs : List Part) (n : Text) (b : Bool) (word : Text) (words : List Text)
+    → Among names n
     → word ≡ 45 ∷ 45 ∷ [] → Passes names (waits xs n b) (word ∷ words) → ⊥
 no_value_dashes names ok xs n b word words known e h =
     let g : Passes names (waits xs n b) ((45 ∷ 45 ∷ []) ∷ words) = subst (λ (v : Text). Passes names (waits xs n b) (v ∷ words)) e h in
     no_value_behind names ok xs n b words known
     ((pass_next names (waits xs n b) (waits_behind xs n b) (45 ∷ 45 ∷ []) words g).1 (dashes_lacking names xs n b))
 
-no_value_option : (names : List Text) → AreNames names → (xs : List Part) (m : Text) (b : Bool) (x : ℕ) (ys : List ℕ) (words : List Text) → Among names m
+no_value_option : (names : List Text) → AreNames names → (xs : List Part) (m : Text) (b : Bool) (x : ℕ) (ys : List ℕ) (words : List Text)
+    → Among names m
     → Passes names (waits xs m b) ((45 ∷ 45 ∷ x ∷ ys) ∷ words) → ⊥
 no_value_option names ok xs m b x ys words known h =
     let split = name_and_value (x ∷ ys) in
     let turn = (pass_next names (waits xs m b) (waits xs m b) (45 ∷ 45 ∷ x ∷ ys) words h).0 in
     elim (by_long names split.0) [
       | inl none ↦ flag_lacking names ok xs m b (45 ∷ 45 ∷ x ∷ ys) split.0 split.1 None known refl refl (inl refl) none turn
-      | inr found ↦ flag_lacking names ok xs m b (45 ∷ 45 ∷ x ∷ ys) split.0 split.1 (Some (option_read split.0)) known refl refl (inr refl) found.1 turn
+      | inr found ↦ flag_lacking names ok xs m b (45 ∷ 45 ∷ x ∷ ys) split.0 split.1 (Some (option_read split.0)) known refl refl
+          (inr refl) found.1 turn
     ]
 
 -- a value of an option
-value_plain : (names : List Text) → AreNames names → (xs : List Part) (n : Text) (b : Bool) (word : Text) (words : List Text) → IsUtf8 word → Among names n
+value_plain : (names : List Text) → AreNames names → (xs : List Part) (n : Text) (b : Bool) (word : Text) (words : List Text)
+    → IsUtf8 word → Among names n
     → Passes names (waits xs n b) (word ∷ words) → IsPlain word
 value_plain names ok xs n b word words utf8 known h = go (form word)
   where
     go : Form word → IsPlain word
     go (is_plain p) = p
     go (is_dashes e) = absurd (no_value_dashes names ok xs n b word words known e h)
-    go (is_option x ys e) = absurd (no_value_option names ok xs n b x ys words known (subst (λ (v : Text). Passes names (waits xs n b) (v ∷ words)) e h))
+    go (is_option x ys e) = absurd (no_value_option names ok xs n b x ys words known
+        (subst (λ (v : Text). Passes names (waits xs n b) (v ∷ words)) e h))
     go (is_letters y ys ne e) =
         let g : Passes names (waits xs n b) ((45 ∷ y ∷ ys) ∷ words) = subst (λ (v : Text). Passes names (waits xs n b) (v ∷ words)) e h in
         let letter = letter_at y ys (subst (λ (v : Text). IsUtf8 v) e utf8) in
-        absurd (letters_lacking names xs n b y ys letter.0 ne letter.1 (pass_next names (waits xs n b) (waits xs n b) (45 ∷ y ∷ ys) words g).0)
+        absurd (letters_lacking names xs n b y ys letter.0 ne letter.1
+        (pass_next names (waits xs n b) (waits xs n b) (45 ∷ y ∷ ys) words g).0)
 
 -- what is claimed of the words behind the first
 abbrev TailClaim : List Text → List Text → Type 0
@@ -188,7 +198,8 @@ claim_spaced names ok word n (text ∷ words) i e ih xs p b ours utf8 h =
           ∙ w.rows_are ∙ one_more (seen xs p) (given n text) (parts_of w.gives);
     }
 
-claim_cut : (names : List Text) → AreNames names → (x : ℕ) (ys : List ℕ) (words : List Text) → Cut (x ∷ ys) → Claim names words → TailClaim names words
+claim_cut : (names : List Text) → AreNames names → (x : ℕ) (ys : List ℕ) (words : List Text) → Cut (x ∷ ys) → Claim names words
+    → TailClaim names words
     → Claim names ((45 ∷ 45 ∷ x ∷ ys) ∷ words)
 claim_cut names ok x ys words (whole lacks) ih ih₂ = go (by_long names (x ∷ ys))
   where
@@ -198,33 +209,41 @@ claim_cut names ok x ys words (whole lacks) ih ih₂ = go (by_long names (x ∷ 
     long : long_of (45 ∷ 45 ∷ x ∷ ys) ≡ Some (x ∷ ys, None)
     long = ap (λ (s : Text × Option Text). Some s) (name_and_value-without (x ∷ ys) lacks)
 
-    go : (arg_by_long (rules names) (x ∷ ys) ≡ None) ⊎ (Among names (x ∷ ys) × (arg_by_long (rules names) (x ∷ ys) ≡ Some (option_read (x ∷ ys))))
+    go : (arg_by_long (rules names) (x ∷ ys) ≡ None) ⊎
+        (Among names (x ∷ ys) × (arg_by_long (rules names) (x ∷ ys) ≡ Some (option_read (x ∷ ys))))
         → Claim names ((45 ∷ 45 ∷ x ∷ ys) ∷ words)
     go (inl none) = λ xs p b ours utf8 h.
-        absurd (unknown_refused names xs p b (45 ∷ 45 ∷ x ∷ ys) (x ∷ ys) None refl long none (pass_next names (stands xs p b false) (stands xs p b false) (45 ∷ 45 ∷ x ∷ ys) words h).0)
-    go (inr found) = claim_spaced names ok (45 ∷ 45 ∷ x ∷ ys) (x ∷ ys) words (record { known = found.0; no_dashes = refl; long = long }) refl ih₂
+        absurd (unknown_refused names xs p b (45 ∷ 45 ∷ x ∷ ys) (x ∷ ys) None refl long none
+        (pass_next names (stands xs p b false) (stands xs p b false) (45 ∷ 45 ∷ x ∷ ys) words h).0)
+    go (inr found) = claim_spaced names ok (45 ∷ 45 ∷ x ∷ ys) (x ∷ ys) words
+        (record { known = found.0; no_dashes = refl; long = long }) refl ih₂
 claim_cut names ok x ys words (cut n v lacks e) ih ih₂ = go (by_long names n)
   where
     long : long_of (45 ∷ 45 ∷ x ∷ ys) ≡ Some (n, Some v)
     long = ap (λ (s : Text × Option Text). Some s) (ap (λ (t : Text). name_and_value t) e ∙ name_and_value-at n v lacks)
 
-    go : (arg_by_long (rules names) n ≡ None) ⊎ (Among names n × (arg_by_long (rules names) n ≡ Some (option_read n))) → Claim names ((45 ∷ 45 ∷ x ∷ ys) ∷ words)
+    go : (arg_by_long (rules names) n ≡ None) ⊎ (Among names n × (arg_by_long (rules names) n ≡ Some (option_read n)))
+        → Claim names ((45 ∷ 45 ∷ x ∷ ys) ∷ words)
     go (inl none) = λ xs p b ours utf8 h.
-        absurd (unknown_refused names xs p b (45 ∷ 45 ∷ x ∷ ys) n (Some v) refl long none (pass_next names (stands xs p b false) (stands xs p b false) (45 ∷ 45 ∷ x ∷ ys) words h).0)
+        absurd (unknown_refused names xs p b (45 ∷ 45 ∷ x ∷ ys) n (Some v) refl long none
+        (pass_next names (stands xs p b false) (stands xs p b false) (45 ∷ 45 ∷ x ∷ ys) words h).0)
     go (inr found) = claim_joined names ok (45 ∷ 45 ∷ x ∷ ys) n v words (record { known = found.0; no_dashes = refl; long = long })
         (ap (λ (t : Text). 45 ∷ 45 ∷ t) e) ih
 
 claim_letters : (names : List Text) → (y : ℕ) (ys : List ℕ) (words : List Text) → y ≢ 45 → Claim names ((45 ∷ y ∷ ys) ∷ words)
 claim_letters names y ys words ne xs p b ours utf8 h =
     let letter = letter_at y ys utf8.0 in
-    absurd (letters_refused names xs p b y ys letter.0 ne letter.1 (pass_next names (stands xs p b false) (stands xs p b false) (45 ∷ y ∷ ys) words h).0)
+    absurd (letters_refused names xs p b y ys letter.0 ne letter.1
+    (pass_next names (stands xs p b false) (stands xs p b false) (45 ∷ y ∷ ys) words h).0)
 
-claim_form : (names : List Text) → AreNames names → (word : Text) (words : List Text) → Form word → Claim names words → TailClaim names words → Claim names (word ∷ words)
+claim_form : (names : List Text) → AreNames names → (word : Text) (words : List Text) → Form word → Claim names words
+    → TailClaim names words → Claim names (word ∷ words)
 claim_form names ok word words (is_plain p) ih ih₂ = claim_plain names ok word words p ih
 claim_form names ok word words (is_dashes e) ih ih₂ = subst (λ (v : Text). Claim names (v ∷ words)) (sym e) (claim_dashes names ok words)
 claim_form names ok word words (is_option x ys e) ih ih₂ =
     subst (λ (v : Text). Claim names (v ∷ words)) (sym e) (claim_cut names ok x ys words (cut_of (x ∷ ys)) ih ih₂)
-claim_form names ok word words (is_letters y ys ne e) ih ih₂ = subst (λ (v : Text). Claim names (v ∷ words)) (sym e) (claim_letters names y ys words ne)
+claim_form names ok word words (is_letters y ys ne e) ih ih₂ = subst (λ (v : Text). Claim names (v ∷ words)) (sym e)
+    (claim_letters names y ys words ne)
 
 claims : (names : List Text) → AreNames names → (words : List Text) → Claim names words × TailClaim names words
 claims names ok [] = (claim_nothing names ok, tt)

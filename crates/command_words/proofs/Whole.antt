@@ -49,7 +49,8 @@ no_default names rs = rw (or_true (has_row (codes "last") rs)) (no_option_defaul
 
 -- ---- the last word must stand
 
-options_optional : (names : List Text) (rs : List Row) → list_any (λ (a : Rule). a.required && not (is_given a.id rs)) (options_read names) ≡ false
+options_optional : (names : List Text) (rs : List Row)
+    → list_any (λ (a : Rule). a.required && not (is_given a.id rs)) (options_read names) ≡ false
 options_optional [] rs = refl
 options_optional (n ∷ names) rs = options_optional names rs
 
@@ -67,10 +68,12 @@ given_rows id (x ∷ ps) = elim (tested (bytes_eq (id_of x) id)) [ inl e ↦ rw 
 
 fault_is : (names words : List Text) → fault_of (parser_app names) words ≡ level_fault (shape names) [] nothing_held words false []
 fault_is names words = leaf_fault (built (parser_app names)) nothing_held words refl
-    ∙ ap (λ (rs : List Rule). level_fault (record (built (parser_app names)).top { rules = rs }) [] nothing_held words false []) (rules_built names)
+    ∙ ap (λ (rs : List Rule). level_fault (record (built (parser_app names)).top { rules = rs }) [] nothing_held words false [])
+    (rules_built names)
 
 pub matches_are : (names words : List Text) → matches_of (parser_app names) words ≡ ends names (stands [] None true false) words
-matches_are names words = ap (λ (rs : List Rule). rows_after rs [] words) (rules_built names) ∙ rows_kept names (ends names (stands [] None true false) words)
+matches_are names words = ap (λ (rs : List Rule). rows_after rs [] words) (rules_built names)
+    ∙ rows_kept names (ends names (stands [] None true false) words)
 
 -- what the rows say, where the words give these options and this last word
 pub record Reads (names words : List Text) (options : List (Text × Text)) (last : Text) (rs : List Row) : Type 0 where
@@ -90,10 +93,14 @@ level_split names words e =
     let k = check_fault (shape names) (fold with_default rs (rules names)) false in
     let a = or_else_nil w (or_else s (or_else d k)) e in
     let b = or_else_nil s (or_else d k) a.1 in
-    let c = or_else_nil d k b.1 in
-    (record { walk = a.0; settle = b.0 }, ap (λ (q : List Row). is_given (codes "last") q) (sym (rows_kept names rs)) ∙ check_missing names (fold with_default rs (rules names)) c.1)
+    let c = or_else_nil d k b.1 in (
+      record { walk = a.0; settle = b.0 },
+      ap (λ (q : List Row). is_given (codes "last") q) (sym (rows_kept names rs))
+          ∙ check_missing names (fold with_default rs (rules names)) c.1,
+    )
 
-level_join : (names words : List Text) → Passes names (stands [] None true false) words → is_given (codes "last") (ends names (stands [] None true false) words) ≡ true
+level_join : (names words : List Text) → Passes names (stands [] None true false) words
+    → is_given (codes "last") (ends names (stands [] None true false) words) ≡ true
     → level_fault (shape names) [] nothing_held words false [] ≡ []
 level_join names words h given =
     let w = walk_fault (shape names) [] (stands [] None true false) words in
@@ -102,10 +109,12 @@ level_join names words h given =
     let rs = (settled (rules names) end).rows in
     let d = defaults_fault rs (rules names) in
     let k = check_fault (shape names) (fold with_default rs (rules names)) false in
-    let check = check_given names (fold with_default rs (rules names)) (ap (λ (q : List Row). is_given (codes "last") q) (rows_kept names rs) ∙ given) in
+    let check = check_given names (fold with_default rs (rules names))
+    (ap (λ (q : List Row). is_given (codes "last") q) (rows_kept names rs) ∙ given) in
     nil_or_else w (or_else s (or_else d k)) h.walk (nil_or_else s (or_else d k) h.settle (nil_or_else d k (no_default names rs) check))
 
-reads_from : (names words : List Text) → AreNames names → (options : List (Text × Text)) (ls : List Text) (l : Text) (g : Gives names words options ls) (rs : List Row)
+reads_from : (names words : List Text) → AreNames names
+    → (options : List (Text × Text)) (ls : List Text) (l : Text) (g : Gives names words options ls) (rs : List Row)
     → rs ≡ rows (parts_of g) → AreOnce options → ls ≡ l ∷ [] → Reads names words options l rs
 reads_from names words ok options ls l g rs same once e = record {
   give = record { gives = subst (λ (k : List Text). Gives names words options k) e g; once = once };
@@ -133,7 +142,8 @@ apart_none [] = tt
 apart_none (o ∷ os) = (refl, apart_none os)
 
 -- and what gives them is taken
-pub given_taken : (names : List Text) → AreNames names → (words : List Text) (options : List (Text × Text)) (last : Text) → Give names words options last → ArePlain options
+pub given_taken : (names : List Text) → AreNames names → (words : List Text) (options : List (Text × Text)) (last : Text)
+    → Give names words options last → ArePlain options
     → (fault_of (parser_app names) words ≡ []) × Reads names words options last (matches_of (parser_app names) words)
 given_taken names ok words options last give plains =
     let g = give.gives in
@@ -142,16 +152,14 @@ given_taken names ok words options last give plains =
     let given : is_given (codes "last") (ends names (stands [] None true false) words) ≡ true =
     ap (λ (q : List Row). is_given (codes "last") q) t.1 ∙ given_rows (codes "last") (parts_of g) ∙ last_stands g last ok refl in (
       fault_is names words ∙ level_join names words t.0 given,
-      reads_from names words ok options (last ∷ []) last g (matches_of (parser_app names) words) (matches_are names words ∙ t.1) give.once refl,
+      reads_from names words ok options (last ∷ []) last g (matches_of (parser_app names) words)
+          (matches_are names words ∙ t.1) give.once refl,
     )
 
 -- ---- the commands' parsers
 
 pub no_names : AreNames []
 no_names n known = absurd known
-
-abbrev is_name : Text → Type 0
-is_name n = IsName n
 
 fuel_name : IsName (codes "fuel")
 fuel_name = record { not_last = refl; last_not = refl; no_dashes = refl; alone = refl; joined_dashes = λ v. refl; joined = λ v. refl }

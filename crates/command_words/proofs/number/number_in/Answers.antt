@@ -19,8 +19,10 @@ returns-then-n-least-clause-usage c _ n low high e =
     elim c.then-n-least.branch [
       | then-n-least-via-then-n-least w ↦ absurd (omega arith)
       | then-n-least-via-else-n-least+then-most-n w ↦ absurd (omega arith)
-      | then-n-least-via-else-n-least+else-most-n+then-ne w ↦ let same_bytes : w.as_str.result.now ≡ c.args.text.now = w.as_str.ensures.value ∙ c.in_ok-printed.ensures.ok ∙ ap decimal same ∙ sym e in
-          let eq : bytes_eq w.as_str.result.now c.args.text.now ≡ true = (bytes_eq-Decides w.as_str.result.now c.args.text.now).1 same_bytes in
+      | then-n-least-via-else-n-least+else-most-n+then-ne w ↦ let same_bytes : w.as_str.result.now
+          ≡ c.args.text.now = w.as_str.ensures.value ∙ c.in_ok-printed.ensures.ok ∙ ap decimal same ∙ sym e in
+          let eq : bytes_eq w.as_str.result.now c.args.text.now
+          ≡ true = (bytes_eq-Decides w.as_str.result.now c.args.text.now).1 same_bytes in
           let ne : true ≡ not (bytes_eq w.as_str.result.now c.args.text.now) = w.if-ne.ensures in
           cc (ne, ap not eq)
     ]
