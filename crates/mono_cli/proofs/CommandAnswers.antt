@@ -1,18 +1,25 @@
 -- The answer of a command.
 use Rattle.std.proofs.Common.{ap, ◌∙◌, ℕ, zero, suc, ◌≡◌, ◌≤◌, ◌<◌, List, [], ◌∷◌, length, Option, Some, None, ◌⊎◌, inl, inr, arith, refl, sym, subst}
+use Rattle.std.specs.Prelude.{◌^◌, codes, string_bytes}
 use Rattle.mono_syntax.specs.Limits.{most_bytes}
 use Rattle.mono_syntax.specs.declared.refusal.Refusal.{Refusal}
 use Rattle.mono_io.specs.Faults.{Rose, IsTold, IsTooLong}
 use Rattle.cast_machine.specs.declared.data.End.{End}
 use Rattle.cast_machine.specs.declared.data.End.TheVariants as ends
+use Rattle.cast_machine.specs.declared.data.Settings.{Settings}
 use Rattle.mono_cli.specs.Ends.{status_of_end}
+use Rattle.mono_list.proofs.Cases.{some_is}
 use Rattle.mono_cli.specs.Answer.{Answer, refused, listed, passed, casts_listed, types_listed, usage, unfetched}
 use Rattle.load_script.specs.Phases.{IsFirstRefusal, too_long}
 use Rattle.mono_cli.specs.Scripts.{AnswersText, IsAccepted, IsRefusedAnswer, IsProgramAnswer}
-use Rattle.mono_cli.specs.declared.words.Verb.{Verb}
-use Rattle.mono_cli.specs.declared.words.Verb.TheVariants as verb
+use Rattle.mono_cli.specs.declared.verb.Verb.{Verb}
+use Rattle.mono_cli.specs.declared.verb.Verb.TheVariants as verb
 use Rattle.load_script.specs.declared.accepted.Accepted.{Accepted}
-use Rattle.mono_cli.specs.Commands.{AnswersTold, IsAnswer}
+use Rattle.mono_cli.specs.Commands.{AnswersTold, AnswersFile, AnswersCommand, IsAnswer, IsServable, file_of}
+use Rattle.command_words.specs.CommandLine.{IsCommandLine, IsNumber, IsSame, IsUsage}
+use Rattle.command_words.specs.declared.command.Command.{Command}
+use Rattle.command_words.specs.declared.command.Command.TheVariants as command
+use Rattle.command_words.proofs.OneCommand.{one_command}
 use Rattle.mono_cli.specs.Showing.{Shows}
 use Rattle.mono_cli.proofs.Shown.{shows_also, shows_whole}
 use Rattle.mono_cli.proofs.TextAnswers.{long_answers}
@@ -49,45 +56,101 @@ accepted_most verb.Check p a h = status_along a passed h (omega arith)
 accepted_most verb.Show p a h = status_along a (listed p.script.scoped.script) h.says (omega arith)
 accepted_most verb.Casts p a h = status_along a (casts_listed p.script h.rows) h.says (omega arith)
 accepted_most verb.Types p a h = status_along a (types_listed p.closed.keys) h (omega arith)
-accepted_most verb.Step p a h = status_along a _ h.says (ended_most h.end)
+accepted_most (verb.Step s seed) p a h = status_along a _ h.says (ended_most h.end)
 
 text_most : (v : Verb) (text : List ℕ) (a : Answer) → IsRefusedAnswer text a ⊎ IsProgramAnswer v text a → a.status ≤ 6
 text_most v text a (inl h) = status_along a (refused h.refusal) h.says (omega arith)
 text_most v text a (inr h) = accepted_most v h.program a h.accepted
 
+file_most : (v : Verb) (file : List ℕ) (told : List ℕ → Option (List ℕ)) (s t : ℕ) (a : Answer) → AnswersFile v file told s t a → a.status ≤ 6
+file_most v file told s t a (inl h) = text_most v h.bytes a (h.answers).answers
+file_most v file told s t a (inr h) = status_along a unfetched h.1 (omega arith)
+
+command_most : (c : Command) (told : List ℕ → Option (List ℕ)) (s t : ℕ) (a : Answer) → AnswersCommand c told s t a → a.status ≤ 6
+command_most (command.Check f) told s t a h = file_most verb.Check (string_bytes f) told s t a h
+command_most (command.Show f) told s t a h = file_most verb.Show (string_bytes f) told s t a h
+command_most (command.Casts f) told s t a h = file_most verb.Casts (string_bytes f) told s t a h
+command_most (command.Types f) told s t a h = file_most verb.Types (string_bytes f) told s t a h
+command_most (command.Step r n f) told s t a h = file_most (verb.Step r n) (string_bytes f) told s t a h
+command_most (command.Run r f) told s t a h = status_along a usage h (omega arith)
+command_most (command.Stress r n k) told s t a h = status_along a usage h (omega arith)
+
 -- an answer's status is at most 6
-pub answer_most : (v : Verb) (file : Option (List ℕ)) (told : List ℕ → Option (List ℕ)) (s t : ℕ) (a : Answer) → IsAnswer v file told s t a → a.status ≤ 6
-answer_most v None told s t a h = status_along a usage h (omega arith)
-answer_most v (Some file) told s t a (inl h) = text_most v h.bytes a (h.answers).answers
-answer_most v (Some file) told s t a (inr h) = status_along a unfetched h.1 (omega arith)
+pub answer_most : (words : List (List ℕ)) (told : List ℕ → Option (List ℕ)) (s t : ℕ) (a : Answer) → IsAnswer words told s t a → a.status ≤ 6
+answer_most words told s t a (inl (c, is, h)) = command_most c told s t a h
+answer_most words told s t a (inr h) = status_along a usage h.1 (omega arith)
 
 -- the refusal of too many bytes is shown in answer to a command that names a file
-pub shows_long : (v : Verb) (file : Option (List ℕ)) (name : List ℕ) → Some name ≡ file → (told : List ℕ → Option (List ℕ)) (s t : ℕ) → IsTooLong (told name) most_bytes →
+pub shows_long : (v : Verb) (file : List ℕ) (told : List ℕ → Option (List ℕ)) (s t : ℕ) → IsTooLong (told file) most_bytes →
     (out out' : Option (List ℕ)) (o o' : ℕ) (err err' : Option (List ℕ)) (e e' status : ℕ) →
-    Shows (λ a. a ≡ refused too_long) out out' o o' err err' e e' status → Shows (λ a. IsAnswer v file told s t a) out out' o o' err err' e e' status
-shows_long v file name is told s t h out out' o o' err err' e e' status shown =
-    subst (λ (f : Option (List ℕ)). Shows (λ a. IsAnswer v f told s t a) out out' o o' err err' e e' status) is
-    (shows_also (λ a. a ≡ refused too_long) (λ a. IsAnswer v (Some name) told s t a) (λ a i. inl (long_told v (told name) h a i)) out out' o o' err err' e e' status shown)
+    Shows (λ a. a ≡ refused too_long) out out' o o' err err' e e' status →
+    Shows (λ a. AnswersFile v file told s t a) out out' o o' err err' e e' status
+shows_long v file told s t h out out' o o' err err' e e' status shown =
+    shows_also (λ a. a ≡ refused too_long) (λ a. AnswersFile v file told s t a) (λ a i. inl (long_told v (told file) h a i)) out out' o o' err err' e e' status shown
+
+fueled : (options : List (List ℕ × List ℕ)) (s : Settings) → IsNumber (codes "fuel") 1 (2 ^ 40) 10000000 options s.fuel → (1 ≤ s.fuel) × (s.fuel ≤ 2 ^ 40)
+fueled options s (inl h) = (h.0, h.1)
+fueled options s (inr h) = (omega (arith, h.1), omega (arith, h.1))
+
+-- a script is run with some fuel, and not too much
+pub servable : (words : List (List ℕ)) (c : Command) → IsCommandLine words c → IsServable c
+servable [] c h = absurd h
+servable (w ∷ ws) (command.Check f) h = tt
+servable (w ∷ ws) (command.Show f) h = tt
+servable (w ∷ ws) (command.Casts f) h = tt
+servable (w ∷ ws) (command.Types f) h = tt
+servable (w ∷ ws) (command.Step r n f) (is, named, options, given, settings, seed) = fueled options r settings.fuel
+servable (w ∷ ws) (command.Run r f) h = tt
+servable (w ∷ ws) (command.Stress r n k) h = tt
 
 -- ---- a refused script
+
+same_file : (c d : Command) → IsSame c d → file_of c ≡ file_of d
+same_file (command.Check f) (command.Check g) h = ap Some h
+same_file (command.Show f) (command.Show g) h = ap Some h
+same_file (command.Casts f) (command.Casts g) h = ap Some h
+same_file (command.Types f) (command.Types g) h = ap Some h
+same_file (command.Step r n f) (command.Step s m g) h = ap Some h.2
+same_file (command.Run r f) (command.Run s g) h = refl
+same_file (command.Stress r n k) (command.Stress s m l) h = refl
 
 told_text : (v : Verb) (told : List ℕ → Option (List ℕ)) (file text : List ℕ) → told file ≡ Some text → (a : Answer) → AnswersTold v (told file) a → AnswersText v text a
 told_text v told file text is a h =
     let same : h.bytes ≡ text = subst (λ (o : Option (List ℕ)). IsTold o h.bytes) is h.are_told in
     subst (λ (x : List ℕ). AnswersText v x a) same h.answers
 
-told_refuses : (v : Verb) (told : List ℕ → Option (List ℕ)) (file text : List ℕ) → told file ≡ Some text → (r : Refusal) → IsFirstRefusal text r → (s t : ℕ) → (Rose s t → ⊥) →
-    (a : Answer) → IsAnswer v (Some file) told s t a → a ≡ refused r
-told_refuses v told file text is r f s t n a (inl h) = (told_text v told file text is a h).refuses r f
-told_refuses v told file text is r f s t n a (inr h) = absurd (n h.0)
+-- what holds of the answers to every text of a file holds of the answers to a command that names it
+abbrev HoldsOf : (List ℕ → Answer → Type 0) → (List ℕ → Option (List ℕ)) → ℕ → ℕ → Type 0
+HoldsOf P told s t = (v : Verb) (file text : List ℕ) → told file ≡ Some text → (a : Answer) → AnswersFile v file told s t a → P text a
 
-pub shows_refusal : (v : Verb) (file : Option (List ℕ)) (told : List ℕ → Option (List ℕ)) (s t : ℕ) (out out' : Option (List ℕ)) (o o' : ℕ) (err err' : Option (List ℕ)) (e e' status : ℕ) →
-    Shows (λ a. IsAnswer v file told s t a) out out' o o' err err' e e' status →
-    (name text : List ℕ) (r : Refusal) → file ≡ Some name → told name ≡ Some text → (Rose s t → ⊥) → IsFirstRefusal text r →
+of_command : (P : List ℕ → Answer → Type 0) (told : List ℕ → Option (List ℕ)) (s t : ℕ) → HoldsOf P told s t → (c : Command) (file text : List ℕ) →
+    file_of c ≡ Some file → told file ≡ Some text → (a : Answer) → AnswersCommand c told s t a → P text a
+of_command P told s t p (command.Check f) file text e is a h = p verb.Check (string_bytes f) text (ap told (some_is e) ∙ is) a h
+of_command P told s t p (command.Show f) file text e is a h = p verb.Show (string_bytes f) text (ap told (some_is e) ∙ is) a h
+of_command P told s t p (command.Casts f) file text e is a h = p verb.Casts (string_bytes f) text (ap told (some_is e) ∙ is) a h
+of_command P told s t p (command.Types f) file text e is a h = p verb.Types (string_bytes f) text (ap told (some_is e) ∙ is) a h
+of_command P told s t p (command.Step r n f) file text e is a h = p (verb.Step r n) (string_bytes f) text (ap told (some_is e) ∙ is) a h
+of_command P told s t p (command.Run r f) file text e is a h = absurd cc
+of_command P told s t p (command.Stress r n k) file text e is a h = absurd cc
+
+of_words : (P : List ℕ → Answer → Type 0) (words : List (List ℕ)) (told : List ℕ → Option (List ℕ)) (s t : ℕ) → HoldsOf P told s t → (c : Command) (file text : List ℕ) →
+    IsCommandLine words c → file_of c ≡ Some file → told file ≡ Some text → (a : Answer) → IsAnswer words told s t a → P text a
+of_words P words told s t p c file text asked e is a (inl (d, own, h)) =
+    of_command P told s t p d file text (same_file d c (one_command words d c own asked) ∙ e) is a h
+of_words P words told s t p c file text asked e is a (inr (none, h)) = absurd (none c asked)
+
+told_refuses : (told : List ℕ → Option (List ℕ)) (s t : ℕ) → (Rose s t → ⊥) →
+    HoldsOf (λ text a. (r : Refusal) → IsFirstRefusal text r → a ≡ refused r) told s t
+told_refuses told s t n v file text is a (inl h) = λ r f. (told_text v told file text is a h).refuses r f
+told_refuses told s t n v file text is a (inr h) = absurd (n h.0)
+
+pub shows_refusal : (words : List (List ℕ)) (told : List ℕ → Option (List ℕ)) (s t : ℕ) (out out' : Option (List ℕ)) (o o' : ℕ) (err err' : Option (List ℕ)) (e e' status : ℕ) →
+    Shows (λ a. IsAnswer words told s t a) out out' o o' err err' e e' status →
+    (c : Command) (file text : List ℕ) (r : Refusal) → IsCommandLine words c → file_of c ≡ Some file → told file ≡ Some text → (Rose s t → ⊥) → IsFirstRefusal text r →
     Shows (λ a. a ≡ refused r) out out' o o' err err' e e' status
-shows_refusal v file told s t out out' o o' err err' e e' status shown name text r named is n f =
-    shows_also (λ a. IsAnswer v file told s t a) (λ a. a ≡ refused r)
-    (λ a h. told_refuses v told name text is r f s t n a (subst (λ (x : Option (List ℕ)). IsAnswer v x told s t a) named h))
+shows_refusal words told s t out out' o o' err err' e e' status shown c file text r asked named is n f =
+    shows_also (λ a. IsAnswer words told s t a) (λ a. a ≡ refused r)
+    (λ a h. of_words (λ x b. (q : Refusal) → IsFirstRefusal x q → b ≡ refused q) words told s t (told_refuses told s t n) c file text asked named is a h r f)
     out out' o o' err err' e e' status shown
 
 ended_other : (e : End) → status_of_end e ≡ 1 → ⊥
@@ -107,23 +170,23 @@ accepted_other verb.Check p a h one = let zero_is : 0 ≡ 1 = ap (λ (x : Answer
 accepted_other verb.Show p a h one = let zero_is : 0 ≡ 1 = ap (λ (x : Answer). x.status) (sym h.says) ∙ one in absurd (omega (arith, zero_is))
 accepted_other verb.Casts p a h one = let zero_is : 0 ≡ 1 = ap (λ (x : Answer). x.status) (sym h.says) ∙ one in absurd (omega (arith, zero_is))
 accepted_other verb.Types p a h one = let zero_is : 0 ≡ 1 = ap (λ (x : Answer). x.status) (sym h) ∙ one in absurd (omega (arith, zero_is))
-accepted_other verb.Step p a h one = ended_other h.end (ap (λ (x : Answer). x.status) (sym h.says) ∙ one)
+accepted_other (verb.Step s seed) p a h one = ended_other h.end (ap (λ (x : Answer). x.status) (sym h.says) ∙ one)
 
 text_refused : (v : Verb) (text : List ℕ) (a : Answer) → IsRefusedAnswer text a ⊎ IsProgramAnswer v text a → a.status ≡ 1 → (r : Refusal) × IsFirstRefusal text r
 text_refused v text a (inl h) one = (h.refusal, h.first)
 text_refused v text a (inr h) one = absurd (accepted_other v h.program a h.accepted one)
 
-told_refused : (v : Verb) (told : List ℕ → Option (List ℕ)) (file text : List ℕ) → told file ≡ Some text → (s t : ℕ) (a : Answer) → IsAnswer v (Some file) told s t a → a.status ≡ 1 →
-    (r : Refusal) × IsFirstRefusal text r
-told_refused v told file text is s t a (inl h) one = text_refused v text a (told_text v told file text is a h).answers one
-told_refused v told file text is s t a (inr h) one =
+told_refused : (told : List ℕ → Option (List ℕ)) (s t : ℕ) → HoldsOf (λ text a. a.status ≡ 1 → (r : Refusal) × IsFirstRefusal text r) told s t
+told_refused told s t v file text is a (inl h) = λ one. text_refused v text a (told_text v told file text is a h).answers one
+told_refused told s t v file text is a (inr h) = λ one.
     let six : 6 ≡ 1 = ap (λ (x : Answer). x.status) (sym h.1) ∙ one in
     absurd (omega (arith, six))
 
 -- a status of 1 comes only where there is a refusal
-pub shows_one : (v : Verb) (file : Option (List ℕ)) (told : List ℕ → Option (List ℕ)) (s t : ℕ) (out out' : Option (List ℕ)) (o o' : ℕ) (err err' : Option (List ℕ)) (e e' status : ℕ) →
-    Shows (λ a. IsAnswer v file told s t a) out out' o o' err err' e e' status →
-    (name text : List ℕ) → file ≡ Some name → told name ≡ Some text → status ≡ 1 → (r : Refusal) × IsFirstRefusal text r
-shows_one v file told s t out out' o o' err err' e e' status shown name text named is one =
-    let all = shows_whole (λ a. IsAnswer v file told s t a) out out' o o' err err' e e' status shown (omega (arith, one)) in
-    told_refused v told name text is s t all.answer (subst (λ (x : Option (List ℕ)). IsAnswer v x told s t all.answer) named all.is) (sym all.status_is ∙ one)
+pub shows_one : (words : List (List ℕ)) (told : List ℕ → Option (List ℕ)) (s t : ℕ) (out out' : Option (List ℕ)) (o o' : ℕ) (err err' : Option (List ℕ)) (e e' status : ℕ) →
+    Shows (λ a. IsAnswer words told s t a) out out' o o' err err' e e' status →
+    (c : Command) (file text : List ℕ) → IsCommandLine words c → file_of c ≡ Some file → told file ≡ Some text → status ≡ 1 → (r : Refusal) × IsFirstRefusal text r
+shows_one words told s t out out' o o' err err' e e' status shown c file text asked named is one =
+    let all = shows_whole (λ a. IsAnswer words told s t a) out out' o o' err err' e e' status shown (omega (arith, one)) in
+    of_words (λ x b. b.status ≡ 1 → (r : Refusal) × IsFirstRefusal x r) words told s t (told_refused told s t) c file text asked named is all.answer all.is
+    (sym all.status_is ∙ one)

@@ -7,7 +7,7 @@ use Rattle.mono_syntax.specs.declared.refusal.Refusal.{Refusal}
 use Rattle.mono_cli.specs.Answer.{Answer, refused}
 use Rattle.load_script.specs.Phases.{IsFirstRefusal, long, undecoded, in_text, too_long, IsProgramOf}
 use Rattle.mono_cli.specs.Scripts.{IsAccepted, AnswersText}
-use Rattle.mono_cli.specs.declared.words.Verb.{Verb}
+use Rattle.mono_cli.specs.declared.verb.Verb.{Verb}
 
 pub program_answers : (v : Verb) (text : List ℕ) (p : Accepted) → IsProgramOf text p → ((r : Refusal) → IsFirstRefusal text r → ⊥) →
     (a : Answer) → IsAccepted v p a → AnswersText v text a

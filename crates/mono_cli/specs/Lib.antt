@@ -4,8 +4,6 @@
 pub mod Texts
 -- the status and the line of an end, and of a refusal
 pub mod Ends
--- the command line
-pub mod Words
 -- an answer: status, output and error line
 pub mod Answer
 -- what of an answer is shown

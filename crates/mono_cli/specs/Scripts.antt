@@ -1,6 +1,6 @@
 -- What a script's bytes come to: their first refusal, or what a command makes of their program: a run, which is safe, its text, its
 -- casts, or its types.
-use Rattle.std.specs.Prelude.{◌≡◌, ◌⊎◌, ℕ, true, List, Some, is_some}
+use Rattle.std.specs.Prelude.{◌≡◌, ◌⊎◌, ◌≤◌, ◌^◌, ℕ, true, List, Some, is_some}
 use Rattle.mono_syntax.specs.declared.cast.CastScript.{CastScript}
 use Rattle.mono_syntax.specs.declared.refusal.Refusal.{Refusal}
 use Rattle.load_script.specs.declared.accepted.Accepted.{Accepted}
@@ -11,27 +11,20 @@ use Rattle.cast_machine.specs.Step.{Configuration, start_of, run_of, IsSeededRun
 use Rattle.cast_machine.specs.Safety.{IsSafe}
 use Rattle.mono_syntax.specs.declared.tree.Script.{Script}
 use Rattle.tree_print.specs.ReadsBack.{ReadsBack}
-use Rattle.mono_cli.specs.declared.words.Verb.{Verb}
-use Rattle.mono_cli.specs.declared.words.Verb.TheVariants as verb
+use Rattle.mono_cli.specs.declared.verb.Verb.{Verb}
+use Rattle.mono_cli.specs.declared.verb.Verb.TheVariants as verb
 use Rattle.cast_lines.specs.declared.rows.Row.{Row}
 use Rattle.cast_lines.specs.CastLines.{AreRows}
 use Rattle.mono_cli.specs.Answer.{Answer, refused, ended, listed, passed, casts_listed, types_listed}
 
--- the limits of a run and its seed where the command names none
-abbrev pub defaults : Settings
-defaults = record { fuel = 10000000; heap = 262144; print = 65536 }
-
-abbrev pub default_seed : ℕ
-default_seed = 0
-
--- The run of the program p in the order of the seed ends at c. However the threads of p take turns, no configuration is
--- stuck, every heap is well typed, types only gain precision, and no cast that only loses precision is blamed.
-pub record RunsTo (p : CastScript) (c : Configuration) : Type 0 where
+-- The run of the program p within the limits s and in the order of the seed ends at c. However the threads of p take turns, no
+-- configuration is stuck, every heap is well typed, types only gain precision, and no cast that only loses precision is blamed.
+pub record RunsTo (p : CastScript) (s : Settings) (seed : ℕ) (c : Configuration) : Type 0 where
   pub order : List ℕ
-  pub seeded : IsSeededRun p (start_of p defaults) default_seed order
-  pub reaches : c ≡ run_of p defaults order
+  pub seeded : IsSeededRun p (start_of p s) seed order
+  pub reaches : c ≡ run_of p s order
   pub ends : is_some c.end ≡ true
-  pub safe : (picks : List ℕ) → IsSafe p (run_of p defaults picks)
+  pub safe : (picks : List ℕ) → IsSafe p (run_of p s picks)
 
 -- the answer is that of the refusal of these bytes
 pub record IsRefusedAnswer (text : List ℕ) (a : Answer) : Type 0 where
@@ -40,10 +33,10 @@ pub record IsRefusedAnswer (text : List ℕ) (a : Answer) : Type 0 where
   pub says : a ≡ refused refusal
 
 -- the answer is that of a run of p: all that it printed, and its end
-pub record IsRunAnswer (p : CastScript) (a : Answer) : Type 0 where
+pub record IsRunAnswer (p : CastScript) (s : Settings) (seed : ℕ) (a : Answer) : Type 0 where
   pub last : Configuration
   pub end : End
-  pub run : RunsTo p last
+  pub run : RunsTo p s seed last
   pub ends : last.end ≡ Some end
   pub says : a ≡ ended p last.lines end
 
@@ -58,13 +51,18 @@ pub record IsCastList (p : CastScript) (a : Answer) : Type 0 where
   pub are : AreRows p.sites rows
   pub says : a ≡ casts_listed p rows
 
+-- the limits of a run leave each thread some steps, and not too many to count
+abbrev pub IsFueled : Verb → Type 0
+IsFueled (verb.Step s seed) = (1 ≤ s.fuel) × (s.fuel ≤ 2 ^ 40)
+IsFueled _ = Unit {0}
+
 -- the answer of a command to an accepted script
 abbrev pub IsAccepted : Verb → Accepted → Answer → Type 0
 IsAccepted verb.Check p a = a ≡ passed
 IsAccepted verb.Show p a = IsListing p.script.scoped.script a
 IsAccepted verb.Casts p a = IsCastList p.script a
 IsAccepted verb.Types p a = a ≡ types_listed p.closed.keys
-IsAccepted verb.Step p a = IsRunAnswer p.script a
+IsAccepted (verb.Step s seed) p a = IsRunAnswer p.script s seed a
 
 -- the answer is that of the command to these bytes' program
 pub record IsProgramAnswer (v : Verb) (text : List ℕ) (a : Answer) : Type 0 where

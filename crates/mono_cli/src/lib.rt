@@ -10,6 +10,6 @@ mod render;
 mod run;
 mod show;
 mod top;
-mod words;
+mod verb;
 
 pub use top::plain_main;

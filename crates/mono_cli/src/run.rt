@@ -1,8 +1,8 @@
-ghost use Rattle.std.specs.Prelude.{◌≡◌, ◌≤◌, length, Contains, IfOk};
+ghost use Rattle.std.specs.Prelude.{◌≡◌, ◌≤◌, ◌^◌, length, Contains, IfOk};
 ghost use Rattle.mono_syntax.specs.Ty.{Ty};
 ghost use Rattle.mono_tree.specs.TypeText.{HasTextNames};
 ghost use Rattle.mono_tree.specs.TypedPrograms.{IsTypedProgram};
-ghost use Rattle.mono_cli.specs.Scripts.{RunsTo, AnswersText, IsAccepted, IsRunAnswer};
+ghost use Rattle.mono_cli.specs.Scripts.{RunsTo, AnswersText, IsAccepted, IsFueled, IsRunAnswer};
 ghost use Rattle.mono_cli.specs.Showing.{Shows};
 ghost use Rattle.tree_print.specs.ReadsBack.{IsGrammatical};
 ghost use Rattle.mono_syntax.specs.Limits.{most_bytes};
@@ -11,37 +11,45 @@ use crate::ends::{end_text, status_of_end};
 use crate::listing::{show_casts, show_listing, show_passed, show_types};
 use crate::refusals::show_refusal;
 use crate::show::show_run;
-use crate::words::Verb;
+use crate::verb::Verb;
 use cast_calculus::{Config, Settings};
 use load_script::{Accepted, load};
 use mono_io::Sink;
 use mono_tree::{CastScript, LoadFault};
 use std::alloc::{AllocError, Global};
 
-const DEFAULTS: Settings = Settings {
-    fuel: 10_000_000,
-    heap: 262_144,
-    print: 65_536,
-};
-
-const DEFAULT_SEED: u64 = 0;
-
 /// The run of a script to its end.
-fn run(alloc: Global, script: &CastScript) -> Result<Config, AllocError>
-    requires { IsTypedProgram script.now }
-    ensures { IfOk result (λ last. RunsTo script.now last) }
+fn run(
+    alloc: Global,
+    script: &CastScript,
+    settings: Settings,
+    seed: u64,
+) -> Result<Config, AllocError>
+    requires typed { IsTypedProgram script.now }
+    requires some { 1 ≤ settings.fuel }
+    requires most { settings.fuel ≤ 2 ^ 40 }
+    ensures { IfOk result (λ last. RunsTo script.now settings seed last) }
 {
-    let config = Config::new(alloc, script, DEFAULTS)?;
-    config.run_by_seed(alloc, script, DEFAULT_SEED)
+    let config = Config::new(alloc, script, settings)?;
+    config.run_by_seed(alloc, script, seed)
 }
 
 /// Runs a script, and then shows what it printed and how it ended.
-fn show_script<K: Sink, E: Sink>(alloc: Global, script: &CastScript, out: &mut K, err: &mut E) -> u8
-    requires { IsTypedProgram script.now }
-    ensures { Shows (λ a. IsRunAnswer script.now a) (K.told out.old) (K.told out.new) (K.faults out.old) (K.faults out.new)
+fn show_script<K: Sink, E: Sink>(
+    alloc: Global,
+    script: &CastScript,
+    settings: Settings,
+    seed: u64,
+    out: &mut K,
+    err: &mut E,
+) -> u8
+    requires typed { IsTypedProgram script.now }
+    requires some { 1 ≤ settings.fuel }
+    requires most { settings.fuel ≤ 2 ^ 40 }
+    ensures { Shows (λ a. IsRunAnswer script.now settings seed a) (K.told out.old) (K.told out.new) (K.faults out.old) (K.faults out.new)
         (E.told err.old) (E.told err.new) (E.faults err.old) (E.faults err.new) result }
 {
-    let Ok(config) = run(alloc, script) else {
+    let Ok(config) = run(alloc, script, settings, seed) else {
         return 8;
     };
     let shown = config.observation();
@@ -70,6 +78,7 @@ fn show_accepted<K: Sink, E: Sink>(
     err: &mut E,
 ) -> u8
     requires typed { IsTypedProgram accepted.now.script }
+    requires fueled { IsFueled verb }
     requires tree { IsGrammatical accepted.now.script.scoped.script }
     requires texts { (t : Ty) → Contains accepted.now.script.types t → HasTextNames t }
     ensures { Shows (λ a. IsAccepted verb accepted.now a) (K.told out.old) (K.told out.new) (K.faults out.old) (K.faults out.new)
@@ -81,7 +90,7 @@ fn show_accepted<K: Sink, E: Sink>(
         Verb::Show => show_listing(alloc, script.scoped.get().script.get(), out),
         Verb::Casts => show_casts(alloc, script, out),
         Verb::Types => show_types(alloc, accepted.closed.as_slice(), out),
-        Verb::Step => show_script(alloc, script, out, err),
+        Verb::Step(settings, seed) => show_script(alloc, script, settings, seed, out, err),
     }
 }
 
@@ -93,7 +102,8 @@ pub fn show_text<K: Sink, E: Sink>(
     out: &mut K,
     err: &mut E,
 ) -> u8
-    requires { length text.now ≤ most_bytes }
+    requires length { length text.now ≤ most_bytes }
+    requires fueled { IsFueled verb }
     ensures { Shows (λ a. AnswersText verb text.now a) (K.told out.old) (K.told out.new) (K.faults out.old) (K.faults out.new)
         (E.told err.old) (E.told err.new) (E.faults err.old) (E.faults err.new) result }
 {

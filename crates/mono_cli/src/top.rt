@@ -1,16 +1,19 @@
 ghost use Rattle.std.specs.Prelude.{◌≡◌, ◌≢◌, ◌<◌, ◌≤◌, ◌⊎◌, map, string_bytes, List, ℕ};
 ghost use Rattle.mono_syntax.specs.declared.refusal.Refusal.{Refusal};
 ghost use Rattle.mono_io.specs.Faults.{Rose};
-ghost use Rattle.mono_cli.specs.Words.{file_of, asked};
-ghost use Rattle.mono_cli.specs.Commands.{IsAnswer};
-ghost use Rattle.mono_cli.specs.Answer.{refused};
+ghost use Rattle.command_words.specs.CommandLine.{IsCommandLine};
+ghost use Rattle.command_words.specs.declared.command.Command.{Command};
+ghost use Rattle.mono_cli.specs.Commands.{AnswersFile, AnswersCommand, IsAnswer, IsServable, file_of};
+ghost use Rattle.mono_cli.specs.Answer.{refused, usage};
+ghost use Rattle.mono_cli.specs.Scripts.{IsFueled};
 ghost use Rattle.load_script.specs.Phases.{IsFirstRefusal};
-ghost use Rattle.mono_cli.specs.Showing.{Shows, ShowsAll};
+ghost use Rattle.mono_cli.specs.Showing.{IsShown, Shows, ShowsAll};
 
 use crate::refusals::show_refusal;
 use crate::run::show_text;
 use crate::show::show_line;
-use crate::words::{asked, file_of};
+use crate::verb::Verb;
+use command_words::{Command, WordsFault, read_words};
 use mono_io::{Shelf, ShelfFault, Sink};
 use mono_syntax::MOST_BYTES;
 use mono_tree::{Place, Reason, Refusal};
@@ -24,6 +27,68 @@ const TOO_LONG: Refusal = Refusal {
     reason: Reason::TooLong,
 };
 
+/// The answer to words that are no command line, or that ask for what isn't served.
+fn show_usage<K: Sink, E: Sink>(out: &mut K, err: &mut E) -> u8
+    ensures { IsShown usage (K.told out.old) (K.told out.new) (K.faults out.old) (K.faults out.new)
+        (E.told err.old) (E.told err.new) (E.faults err.old) (E.faults err.new) result }
+{
+    show_line(
+        2,
+        "usage: mono check|show|casts|types|step|run|stress [OPTIONS] FILE\n",
+        out,
+        err,
+    )
+}
+
+/// Does with the script of this name what the command says.
+fn answer_file<H: Shelf, K: Sink, E: Sink>(
+    alloc: Global,
+    verb: Verb,
+    file: &str,
+    shelf: &mut H,
+    out: &mut K,
+    err: &mut E,
+) -> u8
+    requires { IsFueled verb }
+    ensures { Shows (λ a. AnswersFile verb file.now (H.told shelf.old) (H.faults shelf.old) (H.faults shelf.new) a)
+        (K.told out.old) (K.told out.new) (K.faults out.old) (K.faults out.new)
+        (E.told err.old) (E.told err.new) (E.faults err.old) (E.faults err.new) result }
+{
+    match shelf.fetch(alloc, file, LIMIT) {
+        Ok(bytes) => show_text(alloc, verb, bytes.as_slice(), out, err),
+        Err(ShelfFault::TooLong) => show_refusal(alloc, TOO_LONG, out, err),
+        Err(ShelfFault::Failed) => show_line(6, "error: script not fetched\n", out, err),
+        Err(ShelfFault::Memory) => 8,
+    }
+}
+
+/// Does what a command asks for.
+fn answer_command<H: Shelf, K: Sink, E: Sink>(
+    alloc: Global,
+    command: &Command,
+    shelf: &mut H,
+    out: &mut K,
+    err: &mut E,
+) -> u8
+    requires { IsServable command.now }
+    ensures { Shows (λ a. AnswersCommand command.now (H.told shelf.old) (H.faults shelf.old) (H.faults shelf.new) a)
+        (K.told out.old) (K.told out.new) (K.faults out.old) (K.faults out.new)
+        (E.told err.old) (E.told err.new) (E.faults err.old) (E.faults err.new) result }
+{
+    match command {
+        Command::Check(file) => answer_file(alloc, Verb::Check, file.as_str(), shelf, out, err),
+        Command::Show(file) => answer_file(alloc, Verb::Show, file.as_str(), shelf, out, err),
+        Command::Casts(file) => answer_file(alloc, Verb::Casts, file.as_str(), shelf, out, err),
+        Command::Types(file) => answer_file(alloc, Verb::Types, file.as_str(), shelf, out, err),
+        Command::Step(settings, seed, file) => {
+            let verb = Verb::Step(*settings, *seed);
+            answer_file(alloc, verb, file.as_str(), shelf, out, err)
+        }
+        Command::Run(..) => show_usage(out, err),
+        Command::Stress(..) => show_usage(out, err),
+    }
+}
+
 fn answer<H: Shelf, K: Sink, E: Sink>(
     alloc: Global,
     words: &[String],
@@ -31,29 +96,21 @@ fn answer<H: Shelf, K: Sink, E: Sink>(
     out: &mut K,
     err: &mut E,
 ) -> u8
-    ensures { Shows (λ a. IsAnswer (asked (map (λ w. string_bytes w) words.now)) (file_of (map (λ w. string_bytes w) words.now)) (H.told shelf.old) (H.faults shelf.old) (H.faults shelf.new) a)
+    ensures { Shows (λ a. IsAnswer (map (λ w. string_bytes w) words.now) (H.told shelf.old) (H.faults shelf.old) (H.faults shelf.new) a)
         (K.told out.old) (K.told out.new) (K.faults out.old) (K.faults out.new)
         (E.told err.old) (E.told err.new) (E.faults err.old) (E.faults err.new) result }
 {
-    let Some(file) = file_of(words) else {
-        return show_line(
-            2,
-            "usage: mono check|show|casts|types|step|run|stress [OPTIONS] FILE\n",
-            out,
-            err,
-        );
-    };
-    match shelf.fetch(alloc, file, LIMIT) {
-        Ok(bytes) => show_text(alloc, asked(words), bytes.as_slice(), out, err),
-        Err(ShelfFault::TooLong) => show_refusal(alloc, TOO_LONG, out, err),
-        Err(ShelfFault::Failed) => show_line(6, "error: script not fetched\n", out, err),
-        Err(ShelfFault::Memory) => 8,
+    match read_words(alloc, words) {
+        Ok(command) => answer_command(alloc, &command, shelf, out, err),
+        Err(WordsFault::Usage) => show_usage(out, err),
+        Err(WordsFault::Memory) => 8,
     }
 }
 
 /// Does what a command asks for, on one host thread, and gives its status: the words after the program's name come with
-/// the shelf that has the script and the sinks for output and for the err line. The command is `check FILE`, which says whether
-/// anything is wrong with the script, `show FILE`, which prints it, `casts FILE`, which lists its casts, or `step FILE`, which runs it.
+/// the shelf that has the script and the sinks for output and for the err line. The command is `check`, which says whether
+/// anything is wrong with the script, `show`, which prints it, `casts` and `types`, which list its casts and its closed types, or `step`, which
+/// runs it within its options' limits and in the order of its seed. `run` and `stress` aren't served yet.
 ///
 /// The status is 0 for a run that came to its end and for a script that is accepted by another command, 1 for a refused script, 2 for words that are no command, 3 for a blame,
 /// 4 for another error of the run, 5 for a limit, 6 for a fetch that failed, 7 for a put that failed, and 8 where there
@@ -68,26 +125,26 @@ pub fn plain_main<H: Shelf, K: Sink, E: Sink>(
     // What is put is the answer of the language's rules to the script's bytes, or a part of it. The answer is a refusal
     // exactly where the bytes have one; else it is what their run in the seed's order shows, and every run of them is safe;
     // or, for `check`, that they have none, for `show`, their script's text, which reads back, and for `casts` the list of its casts.
-    ensures answers { Shows (λ a. IsAnswer (asked (map (λ w. string_bytes w) words.now)) (file_of (map (λ w. string_bytes w) words.now)) (H.told shelf.old) (H.faults shelf.old) (H.faults shelf.new) a)
+    ensures answers { Shows (λ a. IsAnswer (map (λ w. string_bytes w) words.now) (H.told shelf.old) (H.faults shelf.old) (H.faults shelf.new) a)
         (K.told out.old) (K.told out.new) (K.faults out.old) (K.faults out.new)
         (E.told err.old) (E.told err.new) (E.faults err.old) (E.faults err.new) result }
 
     // A script is refused exactly where its told bytes have a refusal.
-    ensures refuses { (file text : List ℕ) (r : Refusal) → file_of (map (λ w. string_bytes w) words.now) ≡ Some file → H.told shelf.old file ≡ Some text →
+    ensures refuses { (c : Command) (file text : List ℕ) (r : Refusal) → IsCommandLine (map (λ w. string_bytes w) words.now) c → file_of c ≡ Some file → H.told shelf.old file ≡ Some text →
         (Rose (H.faults shelf.old) (H.faults shelf.new) → ⊥) → IsFirstRefusal text r →
         Shows (λ a. a ≡ refused r) (K.told out.old) (K.told out.new) (K.faults out.old) (K.faults out.new)
         (E.told err.old) (E.told err.new) (E.faults err.old) (E.faults err.new) result }
-    ensures refused { (file text : List ℕ) → file_of (map (λ w. string_bytes w) words.now) ≡ Some file → H.told shelf.old file ≡ Some text →
+    ensures refused { (c : Command) (file text : List ℕ) → IsCommandLine (map (λ w. string_bytes w) words.now) c → file_of c ≡ Some file → H.told shelf.old file ≡ Some text →
         result ≡ 1 → (r : Refusal) × IsFirstRefusal text r }
 
     // A status from 0 to 6 says that all of the answer was put.
-    ensures whole { result ≤ 6 → ShowsAll (λ a. IsAnswer (asked (map (λ w. string_bytes w) words.now)) (file_of (map (λ w. string_bytes w) words.now)) (H.told shelf.old) (H.faults shelf.old) (H.faults shelf.new) a)
+    ensures whole { result ≤ 6 → ShowsAll (λ a. IsAnswer (map (λ w. string_bytes w) words.now) (H.told shelf.old) (H.faults shelf.old) (H.faults shelf.new) a)
         (K.told out.old) (K.told out.new) (E.told err.old) (E.told err.new) result }
 
     // Where no count of faults rose all of the answer was put, unless there was no memory.
     ensures complete { (Rose (H.faults shelf.old) (H.faults shelf.new) → ⊥) → (Rose (K.faults out.old) (K.faults out.new) → ⊥) →
         (Rose (E.faults err.old) (E.faults err.new) → ⊥) → result ≢ 8 →
-        ShowsAll (λ a. IsAnswer (asked (map (λ w. string_bytes w) words.now)) (file_of (map (λ w. string_bytes w) words.now)) (H.told shelf.old) (H.faults shelf.old) (H.faults shelf.new) a)
+        ShowsAll (λ a. IsAnswer (map (λ w. string_bytes w) words.now) (H.told shelf.old) (H.faults shelf.old) (H.faults shelf.new) a)
         (K.told out.old) (K.told out.new) (E.told err.old) (E.told err.new) result }
 
     // When the other statuses come.

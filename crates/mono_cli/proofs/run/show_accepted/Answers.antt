@@ -1,6 +1,6 @@
 use Rattle.std.proofs.Common.{◌≡◌, ◌∙◌, ap, sym, subst}
 use Rattle.mono_syntax.specs.declared.tree.Script.{Script}
-use Rattle.mono_cli.specs.declared.words.Verb.{Verb}
+use Rattle.mono_cli.specs.declared.verb.Verb.{Verb}
 use Rattle.mono_cli.specs.Answer.{passed, types_listed}
 use Rattle.mono_cli.specs.Scripts.{IsAccepted, IsCastList, IsListing}
 use Rattle.mono_cli.proofs.Shown.{shows_also}

@@ -1,9 +1,10 @@
-use Rattle.std.proofs.Common.{refl}
-use Rattle.mono_cli.proofs.CommandAnswers.{shows_long}
+use Rattle.std.proofs.Common.{inl, inr}
+use Rattle.mono_cli.proofs.CommandAnswers.{servable}
+use Rattle.mono_cli.proofs.Shown.{shows_also}
 use Rattle.mono_cli.proofs.top.answer.Goals as goal
 
-pub returns-in-Err-TooLong : goal.returns-in-Err-TooLong
-returns-in-Err-TooLong g c =
-    let h = rw c.in-Err-TooLong.field-0-is at c.in-Err-TooLong.ensures.too_long in
-    let l = h refl in
-    shows_long _ _ c.in-Some.file.now c.in-Some.ensures _ _ _ l.0 _ _ _ _ _ _ _ _ _ c.show_refusal.ensures
+pub answer_command-requires : goal.answer_command-requires
+answer_command-requires g c = servable _ c.in-Ok.command c.in-Ok.ensures.command
+
+pub returns-in-Ok : goal.returns-in-Ok
+returns-in-Ok g c = shows_also _ _ (λ a h. inl (c.in-Ok.command, c.in-Ok.ensures.command, h)) _ _ _ _ _ _ _ _ _ c.answer_command.ensures
