@@ -99,7 +99,7 @@ servable (w ∷ ws) (command.Check f) h = tt
 servable (w ∷ ws) (command.Show f) h = tt
 servable (w ∷ ws) (command.Casts f) h = tt
 servable (w ∷ ws) (command.Types f) h = tt
-servable (w ∷ ws) (command.Step r n f) (is, named, options, given, settings, seed) = fueled options r settings.fuel
+servable (w ∷ ws) (command.Step r n f) (is, named, (options, given, settings, seed)) = fueled options r settings.fuel
 servable (w ∷ ws) (command.Run r f) h = tt
 servable (w ∷ ws) (command.Stress r n k) h = tt
 
@@ -113,6 +113,7 @@ same_file (command.Types f) (command.Types g) h = ap Some h
 same_file (command.Step r n f) (command.Step s m g) h = ap Some h.2
 same_file (command.Run r f) (command.Run s g) h = refl
 same_file (command.Stress r n k) (command.Stress s m l) h = refl
+same_file c d h = absurd h
 
 told_text : (v : Verb) (told : List ℕ → Option (List ℕ)) (file text : List ℕ) → told file ≡ Some text → (a : Answer) → AnswersTold v (told file) a → AnswersText v text a
 told_text v told file text is a h =

@@ -6,4 +6,4 @@ pub returns-in-Err-TooLong : goal.returns-in-Err-TooLong
 returns-in-Err-TooLong g c =
     let h = rw c.in-Err-TooLong.field-0-is at c.in-Err-TooLong.ensures.too_long in
     let l = h refl in
-    shows_long c.args.verb c.args.file.now _ _ _ l.0 _ _ _ _ _ _ _ _ _ c.show_refusal.ensures
+    shows_long c.args.verb c.args.file.now (g.H.Shelf.told c.args.shelf.now) _ _ l.0 _ _ _ _ _ _ _ _ _ c.show_refusal.ensures
