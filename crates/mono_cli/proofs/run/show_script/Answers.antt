@@ -1,5 +1,6 @@
-use Rattle.std.proofs.Common.{inl, refl}
+use Rattle.std.proofs.Common.{rules, inl}
 use Rattle.mono_cli.proofs.run.show_script.Goals as goal
 
 pub returns : goal.returns
-returns g c = inl (?, record { last = ?; end = ?; run = ?; ends = ?; says = refl }, c.show_run.ensures)
+returns g c =
+    inl (_, record { last = c.in-Ok.config; end = c.unwrap-end.result; run = c.in-Ok.ensures; ends = search rules; says = search rules }, c.show_run.ensures)
