@@ -9,7 +9,8 @@ use Rattle.cast_machine.specs.declared.data.End.TheVariants as ends
 use Rattle.cast_machine.specs.declared.data.Settings.{Settings}
 use Rattle.mono_cli.specs.Ends.{status_of_end}
 use Rattle.mono_list.proofs.Cases.{some_is}
-use Rattle.mono_cli.specs.Answer.{Answer, refused, listed, passed, casts_listed, types_listed, usage, unfetched}
+use Rattle.mono_cli.specs.Answer.{Answer, refused, listed, passed, casts_listed, types_listed, head_text, headed, usage, unfetched}
+use Rattle.stress_gen.specs.Stress.{stress_text}
 use Rattle.load_script.specs.Phases.{IsFirstRefusal, too_long}
 use Rattle.mono_cli.specs.Scripts.{AnswersText, IsAccepted, IsRefusedAnswer, IsProgramAnswer}
 use Rattle.mono_cli.specs.declared.verb.Verb.{Verb}
@@ -56,6 +57,8 @@ accepted_most verb.Check p a h = status_along a passed h (omega arith)
 accepted_most verb.Show p a h = status_along a (listed p.script.scoped.script) h.says (omega arith)
 accepted_most verb.Casts p a h = status_along a (casts_listed p.script h.rows) h.says (omega arith)
 accepted_most verb.Types p a h = status_along a (types_listed p.closed.keys) h (omega arith)
+accepted_most (verb.Stress s seed n) p a h =
+    status_along a (headed (head_text n) h.inner) h.says (status_along h.inner _ (h.is).says (ended_most (h.is).end))
 accepted_most (verb.Step s seed) p a h = status_along a _ h.says (ended_most h.end)
 
 text_most : (v : Verb) (text : List ℕ) (a : Answer) → IsRefusedAnswer text a ⊎ IsProgramAnswer v text a → a.status ≤ 6
@@ -73,7 +76,7 @@ command_most (command.Casts f) told s t a h = file_most verb.Casts (string_bytes
 command_most (command.Types f) told s t a h = file_most verb.Types (string_bytes f) told s t a h
 command_most (command.Step r n f) told s t a h = file_most (verb.Step r n) (string_bytes f) told s t a h
 command_most (command.Run r f) told s t a h = status_along a usage h (omega arith)
-command_most (command.Stress r n k) told s t a h = status_along a usage h (omega arith)
+command_most (command.Stress r n k) told s t a h = text_most (verb.Stress r n k) (stress_text k) a h.answers
 
 -- an answer's status is at most 6
 pub answer_most : (words : List (List ℕ)) (told : List ℕ → Option (List ℕ)) (s t : ℕ) (a : Answer) → IsAnswer words told s t a → a.status ≤ 6
@@ -101,7 +104,8 @@ servable (w ∷ ws) (command.Casts f) h = tt
 servable (w ∷ ws) (command.Types f) h = tt
 servable (w ∷ ws) (command.Step r n f) (is, named, (options, given, settings, seed)) = fueled options r settings.fuel
 servable (w ∷ ws) (command.Run r f) h = tt
-servable (w ∷ ws) (command.Stress r n k) h = tt
+servable (w ∷ ws) (command.Stress r n k) (is, some, most, (options, given, settings, seed)) =
+    let f = fueled options r settings.fuel in (some, f.0, f.1, most)
 
 -- ---- a refused script
 
@@ -171,6 +175,8 @@ accepted_other verb.Check p a h one = let zero_is : 0 ≡ 1 = ap (λ (x : Answer
 accepted_other verb.Show p a h one = let zero_is : 0 ≡ 1 = ap (λ (x : Answer). x.status) (sym h.says) ∙ one in absurd (omega (arith, zero_is))
 accepted_other verb.Casts p a h one = let zero_is : 0 ≡ 1 = ap (λ (x : Answer). x.status) (sym h.says) ∙ one in absurd (omega (arith, zero_is))
 accepted_other verb.Types p a h one = let zero_is : 0 ≡ 1 = ap (λ (x : Answer). x.status) (sym h) ∙ one in absurd (omega (arith, zero_is))
+accepted_other (verb.Stress s seed n) p a h one =
+    ended_other (h.is).end (ap (λ (x : Answer). x.status) (sym (h.is).says) ∙ (ap (λ (x : Answer). x.status) (sym h.says) ∙ one))
 accepted_other (verb.Step s seed) p a h one = ended_other h.end (ap (λ (x : Answer). x.status) (sym h.says) ∙ one)
 
 text_refused : (v : Verb) (text : List ℕ) (a : Answer) → IsRefusedAnswer text a ⊎ IsProgramAnswer v text a → a.status ≡ 1 → (r : Refusal) × IsFirstRefusal text r
@@ -191,3 +197,9 @@ shows_one words told s t out out' o o' err err' e e' status shown c file text as
     let all = shows_whole (λ a. IsAnswer words told s t a) out out' o o' err err' e e' status shown (omega (arith, one)) in
     of_words (λ x b. b.status ≡ 1 → (r : Refusal) × IsFirstRefusal x r) words told s t (told_refused told s t) c file text asked named is all.answer all.is
     (sym all.status_is ∙ one)
+
+-- the refusal of a made script that is too long
+pub long_made : (v : Verb) (text : List ℕ) → most_bytes < length text → (out out' : Option (List ℕ)) (o o' : ℕ) (err err' : Option (List ℕ)) (e e' status : ℕ) →
+    Shows (λ a. a ≡ refused too_long) out out' o o' err err' e e' status → Shows (λ a. AnswersText v text a) out out' o o' err err' e e' status
+long_made v text l out out' o o' err err' e e' status shown =
+    shows_also (λ a. a ≡ refused too_long) (λ a. AnswersText v text a) (λ a i. long_answers v text l a i) out out' o o' err err' e e' status shown

@@ -1,5 +1,5 @@
 -- The answers of a command.
-use Rattle.std.specs.Prelude.{ℕ, ◌+◌, List, [], ◌∷◌, ◌++◌, codes, decimal}
+use Rattle.std.specs.Prelude.{ℕ, ◌+◌, ◌*◌, List, [], ◌∷◌, ◌++◌, codes, decimal}
 use Rattle.mono_syntax.specs.declared.cast.CastScript.{CastScript}
 use Rattle.cast_lines.specs.declared.rows.Row.{Row}
 use Rattle.cast_lines.specs.CastLines.{rows_text}
@@ -35,6 +35,14 @@ refused r = record { status = 1; out = []; err = placed_line (codes "refused ") 
 -- the answer to a script that printed these lines and came to this end
 abbrev pub ended : CastScript → List (List Val) → End → Answer
 ended p lines e = record { status = status_of_end e; out = rendered p.scoped.script.items lines; err = end_text p.sites e }
+
+-- the head line of the output of the stress script of n tasks
+abbrev pub head_text : ℕ → List ℕ
+head_text n = codes "stress " ++ (decimal n ++ (codes ": " ++ (decimal (12 + 7 * n) ++ codes " lines\n")))
+
+-- an answer behind a head line
+abbrev pub headed : List ℕ → Answer → Answer
+headed head a = record a { out = head ++ a.out }
 
 -- the answer that lists a script
 abbrev pub listed : Script → Answer

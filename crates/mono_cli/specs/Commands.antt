@@ -6,6 +6,7 @@ use Rattle.command_words.specs.declared.command.Command.{Command}
 use Rattle.command_words.specs.declared.command.Command.TheVariants as command
 use Rattle.mono_cli.specs.declared.verb.Verb.{Verb}
 use Rattle.mono_cli.specs.declared.verb.Verb.TheVariants as verb
+use Rattle.stress_gen.specs.Stress.{stress_text}
 use Rattle.mono_cli.specs.Answer.{Answer, usage, unfetched}
 use Rattle.mono_cli.specs.Scripts.{AnswersText, IsFueled}
 
@@ -20,7 +21,7 @@ pub record AnswersTold (v : Verb) (told : Option (List ℕ)) (a : Answer) : Type
 abbrev pub AnswersFile : Verb → List ℕ → (List ℕ → Option (List ℕ)) → ℕ → ℕ → Answer → Type 0
 AnswersFile v file told s s' a = AnswersTold v (told file) a ⊎ (Rose s s' × (a ≡ unfetched))
 
--- the answer to a command; `run` and `stress` aren't served
+-- the answer to a command; `run` isn't served, and `stress` makes its script itself
 abbrev pub AnswersCommand : Command → (List ℕ → Option (List ℕ)) → ℕ → ℕ → Answer → Type 0
 AnswersCommand (command.Check file) told s s' a = AnswersFile verb.Check (string_bytes file) told s s' a
 AnswersCommand (command.Show file) told s s' a = AnswersFile verb.Show (string_bytes file) told s s' a
@@ -28,7 +29,7 @@ AnswersCommand (command.Casts file) told s s' a = AnswersFile verb.Casts (string
 AnswersCommand (command.Types file) told s s' a = AnswersFile verb.Types (string_bytes file) told s s' a
 AnswersCommand (command.Step settings seed file) told s s' a = AnswersFile (verb.Step settings seed) (string_bytes file) told s s' a
 AnswersCommand (command.Run settings file) told s s' a = a ≡ usage
-AnswersCommand (command.Stress settings seed n) told s s' a = a ≡ usage
+AnswersCommand (command.Stress settings seed n) told s s' a = AnswersText (verb.Stress settings seed n) (stress_text n) a
 
 -- the answer to words: the one to the command that they ask for, and usage where they ask for none
 abbrev pub IsAnswer : List (List ℕ) → (List ℕ → Option (List ℕ)) → ℕ → ℕ → Answer → Type 0
@@ -47,4 +48,5 @@ file_of _ = None
 -- a command whose script may be run as it says
 abbrev pub IsServable : Command → Type 0
 IsServable (command.Step settings seed file) = IsFueled (verb.Step settings seed)
+IsServable (command.Stress settings seed n) = (1 ≤ n) × IsFueled (verb.Stress settings seed n)
 IsServable _ = Unit {0}

@@ -15,7 +15,7 @@ use Rattle.mono_cli.specs.declared.verb.Verb.{Verb}
 use Rattle.mono_cli.specs.declared.verb.Verb.TheVariants as verb
 use Rattle.cast_lines.specs.declared.rows.Row.{Row}
 use Rattle.cast_lines.specs.CastLines.{AreRows}
-use Rattle.mono_cli.specs.Answer.{Answer, refused, ended, listed, passed, casts_listed, types_listed}
+use Rattle.mono_cli.specs.Answer.{Answer, refused, ended, listed, passed, casts_listed, types_listed, head_text, headed}
 
 -- The run of the program p within the limits s and in the order of the seed ends at c. However the threads of p take turns, no
 -- configuration is stuck, every heap is well typed, types only gain precision, and no cast that only loses precision is blamed.
@@ -40,6 +40,12 @@ pub record IsRunAnswer (p : CastScript) (s : Settings) (seed : ℕ) (a : Answer)
   pub ends : last.end ≡ Some end
   pub says : a ≡ ended p last.lines end
 
+-- the answer is one of this kind behind a head line
+pub record IsHeaded (head : List ℕ) (Is : Answer → Type 0) (a : Answer) : Type 0 where
+  pub inner : Answer
+  pub is : Is inner
+  pub says : a ≡ headed head inner
+
 -- the answer lists the script s, and what is put on out reads back: it has the same tree but for places
 pub record IsListing (s : Script) (a : Answer) : Type 0 where
   pub says : a ≡ listed s
@@ -51,9 +57,10 @@ pub record IsCastList (p : CastScript) (a : Answer) : Type 0 where
   pub are : AreRows p.sites rows
   pub says : a ≡ casts_listed p rows
 
--- the limits of a run leave each thread some steps, and not too many to count
+-- the limits of a run leave each thread some steps, and not too many to count; a stress script has up to 200 tasks
 abbrev pub IsFueled : Verb → Type 0
 IsFueled (verb.Step s seed) = (1 ≤ s.fuel) × (s.fuel ≤ 2 ^ 40)
+IsFueled (verb.Stress s seed n) = (1 ≤ s.fuel) × (s.fuel ≤ 2 ^ 40) × (n ≤ 200)
 IsFueled _ = Unit {0}
 
 -- the answer of a command to an accepted script
@@ -63,6 +70,7 @@ IsAccepted verb.Show p a = IsListing p.script.scoped.script a
 IsAccepted verb.Casts p a = IsCastList p.script a
 IsAccepted verb.Types p a = a ≡ types_listed p.closed.keys
 IsAccepted (verb.Step s seed) p a = IsRunAnswer p.script s seed a
+IsAccepted (verb.Stress s seed n) p a = IsHeaded (head_text n) (IsRunAnswer p.script s seed) a
 
 -- the answer is that of the command to these bytes' program
 pub record IsProgramAnswer (v : Verb) (text : List ℕ) (a : Answer) : Type 0 where

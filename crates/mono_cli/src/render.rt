@@ -126,7 +126,7 @@ fn put_line<K: Sink>(
 }
 
 /// Puts the printed lines of a script with these items, piece by piece.
-pub fn put_lines<K: Sink>(
+fn put_lines<K: Sink>(
     alloc: Global,
     items: &[Item],
     lines: &[Items<Val>],
@@ -140,4 +140,20 @@ pub fn put_lines<K: Sink>(
         }
     }
     Ok(())
+}
+
+/// Puts a head line, where it isn't empty, and behind it the printed lines.
+pub fn put_output<K: Sink>(
+    alloc: Global,
+    head: &str,
+    items: &[Item],
+    lines: &[Items<Val>],
+    out: &mut K,
+) -> Result<(), SinkFault>
+    ensures { Puts result (K.told out.old) (K.told out.new) (K.faults out.old) (K.faults out.new) (head.now ++ rendered items.now lines.now) }
+{
+    match put_piece(head.as_bytes(), out) {
+        Ok(()) => put_lines(alloc, items, lines, out),
+        Err(fault) => Err(fault),
+    }
 }

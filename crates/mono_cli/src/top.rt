@@ -5,7 +5,9 @@ ghost use Rattle.command_words.specs.CommandLine.{IsCommandLine};
 ghost use Rattle.command_words.specs.declared.command.Command.{Command};
 ghost use Rattle.mono_cli.specs.Commands.{AnswersFile, AnswersCommand, IsAnswer, IsServable, file_of};
 ghost use Rattle.mono_cli.specs.Answer.{refused, usage};
-ghost use Rattle.mono_cli.specs.Scripts.{IsFueled};
+ghost use Rattle.mono_cli.specs.Scripts.{AnswersText, IsFueled};
+ghost use Rattle.mono_cli.specs.declared.verb.Verb.TheVariants as verb;
+ghost use Rattle.stress_gen.specs.Stress.{stress_text};
 ghost use Rattle.load_script.specs.Phases.{IsFirstRefusal};
 ghost use Rattle.mono_cli.specs.Showing.{IsShown, Shows, ShowsAll};
 
@@ -13,11 +15,13 @@ use crate::refusals::show_refusal;
 use crate::run::show_text;
 use crate::show::show_line;
 use crate::verb::Verb;
+use cast_calculus::Settings;
 use command_words::{Command, WordsFault, read_words};
 use mono_io::{Shelf, ShelfFault, Sink};
 use mono_syntax::MOST_BYTES;
 use mono_tree::{Place, Reason, Refusal};
 use std::alloc::Global;
+use stress_gen::script_of;
 
 /// The bytes of a script, at most.
 const LIMIT: u64 = MOST_BYTES as u64;
@@ -62,6 +66,36 @@ fn answer_file<H: Shelf, K: Sink, E: Sink>(
     }
 }
 
+/// Runs the stress script of so many tasks.
+fn answer_stress<K: Sink, E: Sink>(
+    alloc: Global,
+    settings: Settings,
+    seed: u64,
+    tasks: u32,
+    out: &mut K,
+    err: &mut E,
+) -> u8
+    requires some { 1 ≤ tasks }
+    requires fueled { IsFueled (verb.Stress settings seed tasks) }
+    ensures { Shows (λ a. AnswersText (verb.Stress settings seed tasks) (stress_text tasks) a)
+        (K.told out.old) (K.told out.new) (K.faults out.old) (K.faults out.new)
+        (E.told err.old) (E.told err.new) (E.faults err.old) (E.faults err.new) result }
+{
+    let Ok(text) = script_of(alloc, tasks) else {
+        return 8;
+    };
+    if text.len() as u64 > LIMIT {
+        return show_refusal(alloc, TOO_LONG, out, err);
+    }
+    show_text(
+        alloc,
+        Verb::Stress(settings, seed, tasks),
+        text.as_bytes(),
+        out,
+        err,
+    )
+}
+
 /// Does what a command asks for.
 fn answer_command<H: Shelf, K: Sink, E: Sink>(
     alloc: Global,
@@ -85,7 +119,9 @@ fn answer_command<H: Shelf, K: Sink, E: Sink>(
             answer_file(alloc, verb, file.as_str(), shelf, out, err)
         }
         Command::Run(..) => show_usage(out, err),
-        Command::Stress(..) => show_usage(out, err),
+        Command::Stress(settings, seed, tasks) => {
+            answer_stress(alloc, *settings, *seed, *tasks, out, err)
+        }
     }
 }
 
@@ -109,8 +145,8 @@ fn answer<H: Shelf, K: Sink, E: Sink>(
 
 /// Does what a command asks for, on one host thread, and gives its status: the words after the program's name come with
 /// the shelf that has the script and the sinks for output and for the err line. The command is `check`, which says whether
-/// anything is wrong with the script, `show`, which prints it, `casts` and `types`, which list its casts and its closed types, or `step`, which
-/// runs it within its options' limits and in the order of its seed. `run` and `stress` aren't served yet.
+/// anything is wrong with the script, `show`, which prints it, `casts` and `types`, which list its casts and its closed types, `step`, which
+/// runs it within its options' limits and in the order of its seed, or `stress`, which so runs a script that it makes. `run` isn't served yet.
 ///
 /// The status is 0 for a run that came to its end and for a script that is accepted by another command, 1 for a refused script, 2 for words that are no command, 3 for a blame,
 /// 4 for another error of the run, 5 for a limit, 6 for a fetch that failed, 7 for a put that failed, and 8 where there

@@ -13,4 +13,6 @@ pub enum Verb {
     Types,
     /// Runs it within these limits, in the order of the seed.
     Step(Settings, u64),
+    /// The same, behind the head line of the stress script of so many tasks.
+    Stress(Settings, u64, u32),
 }

@@ -2,7 +2,8 @@ use Rattle.std.proofs.Common.{◌≡◌, ◌∙◌, ap, sym, subst}
 use Rattle.mono_syntax.specs.declared.tree.Script.{Script}
 use Rattle.mono_cli.specs.declared.verb.Verb.{Verb}
 use Rattle.mono_cli.specs.Answer.{passed, types_listed}
-use Rattle.mono_cli.specs.Scripts.{IsAccepted, IsCastList, IsListing}
+use Rattle.mono_cli.specs.Scripts.{IsAccepted, IsCastList, IsHeaded, IsListing, IsRunAnswer}
+use Rattle.mono_cli.proofs.Running.{headless}
 use Rattle.mono_cli.proofs.Shown.{shows_also}
 use Rattle.mono_cli.proofs.run.show_accepted.Goals as goal
 
@@ -30,3 +31,9 @@ returns-in-Types g c =
     shows_also (λ a. a ≡ types_listed c.as_slice.result.now) (λ a. IsAccepted c.args.verb c.args.accepted.now a)
     (λ a h. subst (λ (v : Verb). IsAccepted v c.args.accepted.now a) (sym c.in-Types.is) (h ∙ ap types_listed c.as_slice.ensures.keys))
     _ _ _ _ _ _ _ _ _ (c.show_types.ensures (g.E.Sink.told c.args.err.now) (g.E.Sink.faults c.args.err.now))
+
+pub returns-in-Step : goal.returns-in-Step
+returns-in-Step g c =
+    shows_also _ _
+    (λ a h. subst (λ (v : Verb). IsAccepted v c.args.accepted.now a) (sym c.in-Step.is) (headless _ _ _ a h))
+    _ _ _ _ _ _ _ _ _ c.show_script.ensures
