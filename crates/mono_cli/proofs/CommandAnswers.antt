@@ -10,7 +10,7 @@ use Rattle.cast_machine.specs.declared.data.Settings.{Settings}
 use Rattle.mono_cli.specs.Ends.{status_of_end}
 use Rattle.mono_list.proofs.Cases.{some_is}
 use Rattle.mono_cli.specs.Answer.{Answer, refused, listed, passed, casts_listed, types_listed, head_text, headed, usage, unfetched}
-use Rattle.stress_gen.specs.Stress.{stress_text}
+use Rattle.stress_gen.specs.StressText.{stress_text}
 use Rattle.load_script.specs.Phases.{IsFirstRefusal, too_long}
 use Rattle.mono_cli.specs.Scripts.{AnswersText, IsAccepted, IsRefusedAnswer, IsProgramAnswer}
 use Rattle.mono_cli.specs.declared.verb.Verb.{Verb}

@@ -6,7 +6,7 @@ use Rattle.command_words.specs.declared.command.Command.{Command}
 use Rattle.command_words.specs.declared.command.Command.TheVariants as command
 use Rattle.mono_cli.specs.declared.verb.Verb.{Verb}
 use Rattle.mono_cli.specs.declared.verb.Verb.TheVariants as verb
-use Rattle.stress_gen.specs.Stress.{stress_text}
+use Rattle.stress_gen.specs.StressText.{stress_text}
 use Rattle.mono_cli.specs.Answer.{Answer, usage, unfetched}
 use Rattle.mono_cli.specs.Scripts.{AnswersText, IsFueled}
 

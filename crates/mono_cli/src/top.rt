@@ -7,7 +7,7 @@ ghost use Rattle.mono_cli.specs.Commands.{AnswersFile, AnswersCommand, IsAnswer,
 ghost use Rattle.mono_cli.specs.Answer.{refused, usage};
 ghost use Rattle.mono_cli.specs.Scripts.{AnswersText, IsFueled};
 ghost use Rattle.mono_cli.specs.declared.verb.Verb.TheVariants as verb;
-ghost use Rattle.stress_gen.specs.Stress.{stress_text};
+ghost use Rattle.stress_gen.specs.StressText.{stress_text};
 ghost use Rattle.load_script.specs.Phases.{IsFirstRefusal};
 ghost use Rattle.mono_cli.specs.Showing.{IsShown, Shows, ShowsAll};
 
