@@ -203,3 +203,9 @@ pub long_made : (v : Verb) (text : List ℕ) → most_bytes < length text → (o
     Shows (λ a. a ≡ refused too_long) out out' o o' err err' e e' status → Shows (λ a. AnswersText v text a) out out' o o' err err' e e' status
 long_made v text l out out' o o' err err' e e' status shown =
     shows_also (λ a. a ≡ refused too_long) (λ a. AnswersText v text a) (λ a i. long_answers v text l a i) out out' o o' err err' e e' status shown
+
+-- an answer to a text is one to the same text
+pub made_is : (v : Verb) (text made : List ℕ) → text ≡ made → (out out' : Option (List ℕ)) (o o' : ℕ) (err err' : Option (List ℕ)) (e e' status : ℕ) →
+    Shows (λ a. AnswersText v text a) out out' o o' err err' e e' status → Shows (λ a. AnswersText v made a) out out' o o' err err' e e' status
+made_is v text made is out out' o o' err err' e e' status shown =
+    shows_also (λ a. AnswersText v text a) (λ a. AnswersText v made a) (λ a h. subst (λ (t : List ℕ). AnswersText v t a) is h) out out' o o' err err' e e' status shown

@@ -1,5 +1,5 @@
 -- The answer of a command.
-use Rattle.std.specs.Prelude.{◌≡◌, ◌⊎◌, ℕ, List, Option, Some, None, string_bytes}
+use Rattle.std.specs.Prelude.{◌≡◌, ◌⊎◌, ◌≤◌, ℕ, List, Option, Some, None, string_bytes}
 use Rattle.mono_io.specs.Faults.{Rose, IsTold}
 use Rattle.command_words.specs.CommandLine.{IsCommandLine, IsUsage}
 use Rattle.command_words.specs.declared.command.Command.{Command}
