@@ -105,7 +105,7 @@ servable (w ∷ ws) (command.Types f) h = tt
 servable (w ∷ ws) (command.Step r n f) (is, named, (options, given, settings, seed)) = fueled options r settings.fuel
 servable (w ∷ ws) (command.Run r f) h = tt
 servable (w ∷ ws) (command.Stress r n k) (is, some, most, (options, given, settings, seed)) =
-    let f = fueled options r settings.fuel in (some, f.0, f.1, most)
+    let f = fueled options r settings.fuel in (some, (f.0, f.1, most))
 
 -- ---- a refused script
 
