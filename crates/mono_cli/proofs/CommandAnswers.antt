@@ -209,3 +209,11 @@ pub made_is : (v : Verb) (text made : List ℕ) → text ≡ made → (out out' 
     Shows (λ a. AnswersText v text a) out out' o o' err err' e e' status → Shows (λ a. AnswersText v made a) out out' o o' err err' e e' status
 made_is v text made is out out' o o' err err' e e' status shown =
     shows_also (λ a. AnswersText v text a) (λ a. AnswersText v made a) (λ a h. subst (λ (t : List ℕ). AnswersText v t a) is h) out out' o o' err err' e e' status shown
+
+-- the answer to the script that `stress` makes is one to the command
+pub stress_answers : (c : Command) (r : Settings) (n k : ℕ) → c ≡ command.Stress r n k → (told : List ℕ → Option (List ℕ)) (s t : ℕ) →
+    (out out' : Option (List ℕ)) (o o' : ℕ) (err err' : Option (List ℕ)) (e e' status : ℕ) →
+    Shows (λ a. AnswersText (verb.Stress r n k) (stress_text k) a) out out' o o' err err' e e' status →
+    Shows (λ a. AnswersCommand c told s t a) out out' o o' err err' e e' status
+stress_answers c r n k is told s t out out' o o' err err' e e' status shown =
+    subst (λ (x : Command). Shows (λ a. AnswersCommand x told s t a) out out' o o' err err' e e' status) (sym is) shown
