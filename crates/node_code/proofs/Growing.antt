@@ -1,12 +1,15 @@
 -- Tables that grow: each node stands for its tree still.
-use Rattle.std.proofs.Common.{◌≡◌, ℕ, List, [], ◌∷◌, ◌++◌, length, refl, sym, ap, subst}
+use Rattle.std.proofs.Common.{◌≡◌, ℕ, List, [], ◌∷◌, ◌++◌, length, refl, sym, ap, subst, ◌⊎◌, inl, inr}
 use Rattle.std.specs.Prelude.{Option, Some, None, Result, Ok, Err, IfOk}
 use Rattle.mono_syntax.specs.declared.cast.Arg.{Arg}
 use Rattle.mono_syntax.specs.declared.cast.CastBranch.{CastBranch}
 use Rattle.mono_syntax.specs.CastExpr.{CastExpr}
 use Rattle.mono_syntax.specs.CastStmt.{CastStmt}
 use Rattle.node_code.specs.NodeMeaning.{Trees, IsArg, IsValue, IsBranch, IsElse, NodeIs, StmtIs, BodyIs, IsMeant}
-use Rattle.node_code.specs.Numbering.{Grows, Gives}
+use Rattle.mono_syntax.specs.Ty.{Ty}
+use Rattle.node_code.specs.Numbering.{Grows, Gives, GivesExpr, GivesValues, GivesArgs, ListsValues, ListsArgs}
+use Rattle.node_code.specs.Texts.{IsText}
+use Rattle.node_code.specs.computed.MoreTables.{IsListed, HasText}
 use Rattle.node_code.specs.Places.{At, Keeps, Each}
 use Rattle.node_code.specs.declared.data.ArgNode.{ArgNode}
 use Rattle.node_code.specs.declared.data.BranchNode.{BranchNode}
@@ -17,7 +20,9 @@ use Rattle.node_code.specs.declared.data.Slots.{Slots}
 use Rattle.node_code.specs.declared.data.StmtNode.{StmtNode}
 use Rattle.node_code.specs.declared.data.StmtNode.TheVariants as stmt_node
 use Rattle.node_code.specs.declared.data.Tables.{Tables}
+use Rattle.node_code.specs.declared.put.Many.{Many}
 use Rattle.node_code.specs.declared.put.Numbered.{Numbered}
+use Rattle.node_code.specs.declared.texts.TextAt.{TextAt}
 use Rattle.node_code.proofs.PlaceLaws.{each_length, each_more, each_so, get_new, keeps_more}
 
 -- ---- what is kept
@@ -137,3 +142,116 @@ put_node s a t m d e h =
       };
       here = subst (λ (k : ℕ). At new.exprs k e) (sym (each_length (NodeIs s t old) (t.code).nodes old.exprs (h.meant).exprs)) (get_new old.exprs e);
     }
+
+-- ---- texts and lists
+
+text_kept_by : (ts : List (List ℕ)) (x : List ℕ) (r : TextAt) → IsText ts x r → Keeps ts r.texts
+text_kept_by ts x r h = elim h.texts [
+  | inl e ↦ subst (λ (z : List (List ℕ)). Keeps ts z) (sym e) (λ n y i. i)
+  | inr e ↦ subst (λ (z : List (List ℕ)). Keeps ts z) (sym e.1) (keeps_more ts x)
+]
+
+pub text_kept : (a : Tables) (x : List ℕ) (r : TextAt) → IsText a.texts x r
+    → HasText a x (record { at = r.at; tables = record { texts = r.texts; types = a.types; code = a.code } })
+text_kept a x r h = record { at = h.at; keeps = text_kept_by a.texts x r h; types = refl; code = refl }
+
+-- one text more, the trees as before
+pub texted : (s : Slots) (a : Tables) (m : Trees) (x : List ℕ) (r : Numbered) → IsMeant s a m → HasText a x r
+    → Gives s a m r.tables (λ t. At (r.tables).texts r.at x)
+texted s a m x r ok h =
+    let b = r.tables in
+    let g : Grows a m b m = record {
+        texts = h.keeps;
+        types = subst (λ (z : List Ty). Keeps a.types z) (sym h.types) (λ n y i. i);
+        lists = subst (λ (z : Code). Keeps (a.code).lists z.lists) (sym h.code) (λ n y i. i);
+        branches = subst (λ (z : Code). Keeps (a.code).branches z.branches) (sym h.code) (λ n y i. i);
+        exprs = λ n y i. i;
+        stmts = λ n y i. i;
+        bodies = λ n y i. i;
+    } in
+    record {
+      trees = m;
+      grows = g;
+      meant = meant_kept s a b m m g (ap (λ (z : Code). z.nodes) h.code) (ap (λ (z : Code). z.stmts) h.code) (ap (λ (z : Code). z.bodies) h.code) refl ok;
+      here = h.at;
+    }
+
+abbrev pub with_lists : Tables → List (List ArgNode) → Tables
+with_lists t ls = record t { code = record t.code { lists = ls } }
+
+-- one list more, the trees as before
+list_grows : (t : Tables) (m : Trees) (l : List ArgNode) → Grows t m (with_lists t ((t.code).lists ++ l ∷ [])) m
+list_grows t m l = record {
+  texts = λ n y i. i;
+  types = λ n y i. i;
+  lists = keeps_more (t.code).lists l;
+  branches = λ n y i. i;
+  exprs = λ n y i. i;
+  stmts = λ n y i. i;
+  bodies = λ n y i. i;
+}
+
+pub values_listed : (s : Slots) (a : Tables) (m : Trees) (es : List CastExpr) (b : Many) (r : Numbered) → GivesValues s a m es b → IsListed b r → ListsValues s a m es r
+values_listed s a m es b r h e =
+    let t = b.tables in
+    let g = list_grows t h.trees b.nodes in
+    subst (λ (z : Numbered). ListsValues s a m es z) (sym e) (record {
+      trees = h.trees;
+      grows = grows_on h.grows g;
+      meant = meant_kept s t (with_lists t ((t.code).lists ++ b.nodes ∷ [])) h.trees h.trees g refl refl refl refl h.meant;
+      here = (b.nodes, get_new (t.code).lists b.nodes, h.here);
+    })
+
+pub args_listed : (s : Slots) (a : Tables) (m : Trees) (given : List Arg) (b : Many) (r : Numbered) → GivesArgs s a m given b → IsListed b r → ListsArgs s a m given r
+args_listed s a m given b r h e =
+    let t = b.tables in
+    let g = list_grows t h.trees b.nodes in
+    subst (λ (z : Numbered). ListsArgs s a m given z) (sym e) (record {
+      trees = h.trees;
+      grows = grows_on h.grows g;
+      meant = meant_kept s t (with_lists t ((t.code).lists ++ b.nodes ∷ [])) h.trees h.trees g refl refl refl refl h.meant;
+      here = (b.nodes, get_new (t.code).lists b.nodes, h.here);
+    })
+
+-- the same for answers
+pub values_listed_ok : {E : Type 0} (s : Slots) (a : Tables) (m : Trees) (es : List CastExpr) (b : Many) (r : Result Numbered E)
+    → GivesValues s a m es b → IfOk r (IsListed b) → IfOk r (ListsValues s a m es)
+values_listed_ok s a m es b (Ok r) h e = values_listed s a m es b r h e
+values_listed_ok s a m es b (Err f) h e = tt
+
+pub args_listed_ok : {E : Type 0} (s : Slots) (a : Tables) (m : Trees) (given : List Arg) (b : Many) (r : Result Numbered E)
+    → GivesArgs s a m given b → IfOk r (IsListed b) → IfOk r (ListsArgs s a m given)
+args_listed_ok s a m given b (Ok r) h e = args_listed s a m given b r h e
+args_listed_ok s a m given b (Err f) h e = tt
+
+-- ---- one behind the other
+
+pub gives_on : (s : Slots) (a b c : Tables) (m : Trees) (H K L : Trees → Type 0) (f : Gives s a m b H) (g : Gives s b f.trees c K)
+    → (L g.trees) → Gives s a m c L
+gives_on s a b c m H K L f g l = record { trees = g.trees; grows = grows_on f.grows g.grows; meant = g.meant; here = l }
+
+-- one more value
+pub values_more : (s : Slots) (a t : Tables) (m : Trees) (ns : List ArgNode) (es : List CastExpr) (e : CastExpr) (r : Numbered)
+    → (f : GivesValues s a m es (record { nodes = ns; tables = t })) → GivesExpr s t f.trees e r
+    → GivesValues s a m (es ++ e ∷ []) (record { nodes = ns ++ record { site = None; node = r.at } ∷ []; tables = r.tables })
+values_more s a t m ns es e r f g = record {
+  trees = g.trees;
+  grows = grows_on f.grows g.grows;
+  meant = g.meant;
+  here = each_more (IsValue g.trees) ns es (record { site = None; node = r.at }) e (values_kept s t r.tables f.trees g.trees g.grows ns es f.here) (refl, g.here);
+}
+
+-- one more argument
+pub args_more : (s : Slots) (a t : Tables) (m : Trees) (ns : List ArgNode) (given : List Arg) (x : Arg) (r : Numbered)
+    → (f : GivesArgs s a m given (record { nodes = ns; tables = t })) → GivesExpr s t f.trees x.value r
+    → GivesArgs s a m (given ++ x ∷ []) (record { nodes = ns ++ record { site = x.site; node = r.at } ∷ []; tables = r.tables })
+args_more s a t m ns given x r f g = record {
+  trees = g.trees;
+  grows = grows_on f.grows g.grows;
+  meant = g.meant;
+  here = each_more (IsArg g.trees) ns given (record { site = x.site; node = r.at }) x (args_kept s t r.tables f.trees g.trees g.grows ns given f.here) (refl, g.here);
+}
+
+-- none yet
+pub none_yet : (s : Slots) (a : Tables) (m : Trees) (H : Trees → Type 0) → IsMeant s a m → H m → Gives s a m a H
+none_yet s a m H ok h = record { trees = m; grows = grows_same a m; meant = ok; here = h }

@@ -1,3 +1,4 @@
 pub mod PlaceLaws
 pub mod TextLaws
 pub mod Growing
+pub mod Slotting

@@ -1,6 +1,6 @@
 -- The first place of a text, and a list of texts that gets one more.
 use Rattle.std.proofs.Common.{◌≡◌, ◌∙◌, sym, ap, subst, refl, ℕ, zero, suc, ◌+◌, ◌<◌, Bool, true, false, List, [], ◌∷◌, ◌++◌, length, arith, ◌⊎◌, inl, inr}
-use Rattle.std.specs.Prelude.{Option, Some, None, bytes_eq, slice_get, if◌then◌else◌, Contains}
+use Rattle.std.specs.Prelude.{Result, Ok, Err, IfOk, Option, Some, None, bytes_eq, slice_get, if◌then◌else◌, Contains}
 use Rattle.std.proofs.lemmas.List.Elements.{Contains-append_cases}
 use Rattle.mono_list.proofs.Cases.{split, none_some, some_none, some_is}
 use Rattle.std.proofs.lemmas.Slice.Eq.{bytes_eq-Decides}
@@ -76,3 +76,8 @@ text_new ts x e =
 pub looked_none : (o : Option ℕ) → ((k : ℕ) → o ≡ Some k → ⊥) → o ≡ None
 looked_none None h = refl
 looked_none (Some k) h = absurd (h k refl)
+
+-- what is asked of a number holds of an answer with that number
+pub all_ok : {E : Type 0} (P : ℕ → Type 0) (k : ℕ) (r : Result ℕ E) → IfOk r (λ n. n ≡ k) → P k → IfOk r P
+all_ok P k (Ok n) e p = subst P (sym e) p
+all_ok P k (Err f) e p = tt

@@ -26,6 +26,7 @@ pub(crate) fn slot(names: &NamePlaces, name: &Name) -> Result<u32, AllocError>
 
 /// An expression by numbers, behind its parts.
 #[cycle(exprs)]
+#[tactic(auto, using(mono_syntax::proofs::Parts::parts))]
 pub(crate) fn number_expr(
     alloc: Global,
     slots: &Slots,
@@ -40,6 +41,7 @@ pub(crate) fn number_expr(
 
 /// The node of an expression, behind its parts.
 #[cycle(exprs)]
+#[tactic(auto, using(mono_syntax::proofs::Parts::parts))]
 fn node_of(
     alloc: Global,
     slots: &Slots,
@@ -159,6 +161,7 @@ fn node_of(
 
 /// The list of values that have no sites, as those of a print.
 #[cycle(exprs)]
+#[tactic(auto, using(mono_syntax::proofs::Parts::parts))]
 pub(crate) fn number_values(
     alloc: Global,
     slots: &Slots,
@@ -173,6 +176,7 @@ pub(crate) fn number_values(
 
 /// Their nodes.
 #[cycle(exprs)]
+#[tactic(auto, using(mono_syntax::proofs::Parts::parts))]
 fn value_nodes(
     alloc: Global,
     slots: &Slots,
@@ -196,6 +200,7 @@ fn value_nodes(
 
 /// The list of the arguments of a call.
 #[cycle(exprs)]
+#[tactic(auto, using(mono_syntax::proofs::Parts::parts))]
 pub(crate) fn number_args(
     alloc: Global,
     slots: &Slots,
@@ -210,6 +215,7 @@ pub(crate) fn number_args(
 
 /// Their nodes.
 #[cycle(exprs)]
+#[tactic(auto, using(mono_syntax::proofs::Parts::parts))]
 fn arg_nodes(
     alloc: Global,
     slots: &Slots,

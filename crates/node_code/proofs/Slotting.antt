@@ -1,0 +1,23 @@
+-- Each of some expressions whose names have slots.
+use Rattle.std.proofs.Common.{◌≡◌, ℕ, zero, suc, ◌+◌, ◌<◌, List, [], ◌∷◌, length, get_or, arith, subst, sym}
+use Rattle.mono_syntax.specs.declared.cast.Arg.{Arg}
+use Rattle.mono_syntax.specs.CastExpr.{CastExpr}
+use Rattle.mono_syntax.specs.CastExprView.{args, cast_exprs}
+use Rattle.node_code.specs.Slotted.{IsSlotted, AreSlotted, ArgsSlotted}
+use Rattle.node_code.specs.declared.data.Slots.{Slots}
+
+value_at : (s : Slots) (xs : List CastExpr) (i : ℕ) (d : CastExpr) → i < length xs → AreSlotted s (cast_exprs xs) → IsSlotted s (get_or xs i d)
+value_at s [] i d h u = absurd (omega arith)
+value_at s (x ∷ xs) zero d h u = u.0
+value_at s (x ∷ xs) (suc i) d h u = value_at s xs i d (omega arith) u.1
+
+pub value_slotted : (s : Slots) (xs : List CastExpr) (i : ℕ) (x : CastExpr) → i < length xs → x ≡ get_or xs i x → AreSlotted s (cast_exprs xs) → IsSlotted s x
+value_slotted s xs i x h e u = subst (λ (z : CastExpr). IsSlotted s z) (sym e) (value_at s xs i x h u)
+
+arg_at : (s : Slots) (xs : List Arg) (i : ℕ) (d : Arg) → i < length xs → ArgsSlotted s (args xs) → IsSlotted s (get_or xs i d).value
+arg_at s [] i d h u = absurd (omega arith)
+arg_at s (x ∷ xs) zero d h u = u.0
+arg_at s (x ∷ xs) (suc i) d h u = arg_at s xs i d (omega arith) u.1
+
+pub arg_slotted : (s : Slots) (xs : List Arg) (i : ℕ) (x : Arg) → i < length xs → x ≡ get_or xs i x → ArgsSlotted s (args xs) → IsSlotted s x.value
+arg_slotted s xs i x h e u = subst (λ (z : Arg). IsSlotted s z.value) (sym e) (arg_at s xs i x h u)
