@@ -2,3 +2,4 @@ pub mod PlaceLaws
 pub mod TextLaws
 pub mod Growing
 pub mod Slotting
+pub mod StmtGrowing

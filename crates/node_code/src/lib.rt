@@ -6,6 +6,7 @@ mod data;
 
 mod exprs;
 mod put;
+mod stmts;
 mod texts;
 
 pub use data::{ArgNode, BranchNode, Code, Node, Slots, StmtNode, Tables};

@@ -1,15 +1,17 @@
-ghost use Rattle.std.specs.Prelude.{◌≡◌, IfOk};
+ghost use Rattle.std.specs.Prelude.{◌≡◌, IfOk, List};
 ghost use Rattle.mono_syntax.specs.CastExpr.{CastExpr};
-ghost use Rattle.node_code.specs.NodeMeaning.{Trees, NodeIs};
-ghost use Rattle.node_code.specs.Numbering.{Gives};
-ghost use Rattle.node_code.specs.computed.MoreTables.{IsListed, HasText};
-ghost use Rattle.node_code.specs.Places.{At};
+ghost use Rattle.node_code.specs.NodeMeaning.{Trees};
+ghost use Rattle.mono_syntax.specs.declared.cast.CastBranch.{CastBranch};
+ghost use Rattle.mono_syntax.specs.CastStmt.{CastStmt};
+ghost use Rattle.node_code.specs.Numbering.{GivesExpr, GivesNode, GivesStmt, GivesStmtNode, GivesStmts, GivesBody, GivesBranches, ListsBranches};
+ghost use Rattle.node_code.specs.computed.MoreTables.{IsListed, HasText, IsTyped};
 ghost use Rattle.node_code.specs.declared.data.Slots.{Slots};
 ghost use Rattle.node_code.specs.declared.data.Tables.{Tables};
 
-use crate::data::{ArgNode, Node, Tables};
+use crate::data::{ArgNode, BranchNode, Node, StmtNode, Tables};
 use crate::texts::numbered;
-use mono_syntax::Name;
+use mono_list::Shared;
+use mono_syntax::{Name, Ty};
 use sqlite_items::Items;
 use std::alloc::{AllocError, Global};
 
@@ -29,7 +31,7 @@ pub(crate) struct Made {
 
 /// One node more.
 pub(crate) fn put(made: Made) -> Result<Numbered, AllocError>
-    ensures { (s : Slots) (a : Tables) (m : Trees) (e : CastExpr) → Gives s a m made.tables (λ t. NodeIs s made.tables t made.node e) → IfOk result (λ r. Gives s a m r.tables (λ t. At t.exprs r.at e)) }
+    ensures { (s : Slots) (a : Tables) (m : Trees) (e : CastExpr) → GivesNode s a m e made → IfOk result (GivesExpr s a m e) }
 {
     let Made { node, mut tables } = made;
     let at = numbered(tables.code.nodes.len())?;
@@ -69,4 +71,68 @@ pub(crate) fn put_text(alloc: Global, text: &Name, tables: Tables) -> Result<Num
         at: found.at,
         tables,
     })
+}
+
+/// A statement's node whose parts stand in the tables.
+#[derive(Drop)]
+pub(crate) struct MadeStmt {
+    pub node: StmtNode,
+    pub tables: Tables,
+}
+
+/// One statement more.
+pub(crate) fn put_stmt(made: MadeStmt) -> Result<Numbered, AllocError>
+    ensures { (s : Slots) (a : Tables) (m : Trees) (e : CastStmt) → GivesStmtNode s a m e made → IfOk result (GivesStmt s a m e) }
+{
+    let MadeStmt { node, mut tables } = made;
+    let at = numbered(tables.code.stmts.len())?;
+    tables.code.stmts.push(node)?;
+    Ok(Numbered { at, tables })
+}
+
+/// Statements of a body that stand in the tables.
+#[derive(Drop)]
+pub(crate) struct Body {
+    pub stmts: Items<u32>,
+    pub tables: Tables,
+}
+
+/// One body more.
+pub(crate) fn put_body(body: Body) -> Result<Numbered, AllocError>
+    ensures { (s : Slots) (a : Tables) (m : Trees) (b : List CastStmt) → GivesStmts s a m b body → IfOk result (GivesBody s a m b) }
+{
+    let Body { stmts, mut tables } = body;
+    let at = numbered(tables.code.bodies.len())?;
+    tables.code.bodies.push(stmts)?;
+    Ok(Numbered { at, tables })
+}
+
+/// Branches whose conditions and bodies stand in the tables.
+#[derive(Drop)]
+pub(crate) struct Branches {
+    pub branches: Items<BranchNode>,
+    pub tables: Tables,
+}
+
+/// One list of branches more.
+pub(crate) fn put_branches(list: Branches) -> Result<Numbered, AllocError>
+    ensures { (s : Slots) (a : Tables) (m : Trees) (bs : List CastBranch) → GivesBranches s a m bs list → IfOk result (ListsBranches s a m bs) }
+{
+    let Branches {
+        branches,
+        mut tables,
+    } = list;
+    let at = numbered(tables.code.branches.len())?;
+    tables.code.branches.push(branches)?;
+    Ok(Numbered { at, tables })
+}
+
+/// One type of a write more.
+pub(crate) fn put_type(ty: &Shared<Ty>, tables: Tables) -> Result<Numbered, AllocError>
+    ensures { IfOk result (IsTyped tables ty.now) }
+{
+    let mut tables = tables;
+    let at = numbered(tables.types.len())?;
+    tables.types.push(ty.share()?)?;
+    Ok(Numbered { at, tables })
 }

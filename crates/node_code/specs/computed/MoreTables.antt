@@ -1,5 +1,6 @@
 -- Computed: what one call adds to the tables.
 use Rattle.std.specs.Prelude.{◌≡◌, ℕ, List, [], ◌∷◌, ◌++◌, length}
+use Rattle.mono_syntax.specs.Ty.{Ty}
 use Rattle.node_code.specs.Places.{At, Keeps}
 use Rattle.node_code.specs.declared.data.Tables.{Tables}
 use Rattle.node_code.specs.declared.put.Many.{Many}
@@ -18,3 +19,7 @@ pub record HasText (a : Tables) (x : List ℕ) (r : Numbered) : Type 0 where
   pub keeps : Keeps a.texts (r.tables).texts
   pub types : (r.tables).types ≡ a.types
   pub code : (r.tables).code ≡ a.code
+
+-- the type stands behind the others
+abbrev pub IsTyped : Tables → Ty → Numbered → Type 0
+IsTyped a t r = r ≡ record { at = length a.types; tables = record a { types = a.types ++ t ∷ [] } }
