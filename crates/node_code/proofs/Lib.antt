@@ -3,3 +3,4 @@ pub mod TextLaws
 pub mod Growing
 pub mod Slotting
 pub mod StmtGrowing
+pub mod BlockLaws

@@ -5,8 +5,8 @@ use Rattle.std.proofs.lemmas.List.Elements.{Contains-append_cases}
 use Rattle.mono_list.proofs.Cases.{split, none_some, some_none, some_is}
 use Rattle.std.proofs.lemmas.Slice.Eq.{bytes_eq-Decides}
 use Rattle.name_places.specs.Places.{place_from, place_in}
-use Rattle.node_code.specs.Places.{At}
-use Rattle.node_code.specs.Texts.{AreOnce, IsText}
+use Rattle.node_code.specs.Places.{At, AreOnce}
+use Rattle.node_code.specs.Texts.{IsText}
 use Rattle.node_code.specs.declared.texts.TextAt.{TextAt}
 use Rattle.node_code.proofs.PlaceLaws.{get_new}
 
@@ -53,7 +53,7 @@ only_in x y (suc k, l, e) = absurd (omega arith)
 in_rest : (y x : List ℕ) (xs : List (List ℕ)) → Contains xs x → Contains (y ∷ xs) x
 in_rest y x xs (k, l, e) = (suc k, omega arith, e)
 
-once_more : (xs : List (List ℕ)) (x : List ℕ) → (Contains xs x → ⊥) → AreOnce xs → AreOnce (xs ++ x ∷ [])
+pub once_more : (xs : List (List ℕ)) (x : List ℕ) → (Contains xs x → ⊥) → AreOnce xs → AreOnce (xs ++ x ∷ [])
 once_more [] x h d = (none_in x, tt)
 once_more (y ∷ xs) x h d = (
   λ c. elim (Contains-append_cases xs (x ∷ []) y c) [ inl i ↦ d.0 i | inr i ↦ h (0, omega arith, sym (only_in x y i)) ],
@@ -66,12 +66,15 @@ at_of (y ∷ xs) x (zero, l, e) = (0, ap (λ (z : List ℕ). Some z) e)
 at_of (y ∷ xs) x (suc k, l, e) = let (j, a) = at_of xs x (k, omega arith, e) in (suc j, a)
 
 pub text_old : (ts : List (List ℕ)) (x : List ℕ) (i : ℕ) → place_in ts x ≡ Some i → IsText ts x (record { at = i; texts = ts })
-text_old ts x i e = record { at = found ts x i e; texts = inl refl; once = λ d. d }
+text_old ts x i e = record { at = found ts x i e; texts = inl refl }
+
+-- a text that has no place isn't there
+pub absent : (ts : List (List ℕ)) (x : List ℕ) → place_in ts x ≡ None → Contains ts x → ⊥
+absent ts x e c = let (j, a) = at_of ts x c in missing ts x e j a
 
 pub text_new : (ts : List (List ℕ)) (x : List ℕ) → place_in ts x ≡ None → IsText ts x (record { at = length ts; texts = ts ++ x ∷ [] })
 text_new ts x e =
-    let new : Contains ts x → ⊥ = λ c. let (j, a) = at_of ts x c in missing ts x e j a in
-    record { at = get_new ts x; texts = inr (new, refl); once = once_more ts x new }
+    record { at = get_new ts x; texts = inr (absent ts x e, refl) }
 
 pub looked_none : (o : Option ℕ) → ((k : ℕ) → o ≡ Some k → ⊥) → o ≡ None
 looked_none None h = refl

@@ -10,5 +10,7 @@ pub mod Slotted
 pub mod NodeMeaning
 -- a block that has got more nodes
 pub mod Numbering
+-- a block by numbers
+pub mod Blocks
 -- Computed: what code computes.
 pub mod computed

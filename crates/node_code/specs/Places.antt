@@ -1,5 +1,5 @@
 -- What stands at a place of a list, and lists side by side.
-use Rattle.std.specs.Prelude.{◌≡◌, ℕ, List, [], ◌∷◌, Some, slice_get}
+use Rattle.std.specs.Prelude.{◌≡◌, ℕ, List, [], ◌∷◌, Some, slice_get, Contains}
 
 -- x stands at place n of the list
 abbrev pub At : {A : Type 0} → List A → ℕ → A → Type 0
@@ -14,3 +14,8 @@ abbrev pub Each : {A B : Type 0} → (A → B → Type 0) → List A → List B 
 Each R [] [] = Unit {0}
 Each R (x ∷ xs) (y ∷ ys) = R x y × Each R xs ys
 Each R xs ys = ⊥
+
+-- each text stands once
+abbrev pub AreOnce : List (List ℕ) → Type 0
+AreOnce [] = Unit {0}
+AreOnce (x ∷ xs) = (Contains xs x → ⊥) × AreOnce xs

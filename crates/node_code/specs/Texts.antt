@@ -3,13 +3,7 @@ use Rattle.std.specs.Prelude.{◌≡◌, ◌⊎◌, ℕ, List, [], ◌∷◌, �
 use Rattle.node_code.specs.Places.{At}
 use Rattle.node_code.specs.declared.texts.TextAt.{TextAt}
 
--- each text stands once
-abbrev pub AreOnce : List (List ℕ) → Type 0
-AreOnce [] = Unit {0}
-AreOnce (x ∷ xs) = (Contains xs x → ⊥) × AreOnce xs
-
 -- x stands at the number of r; the texts are ts, with x behind them where ts hasn't x
 pub record IsText (ts : List (List ℕ)) (x : List ℕ) (r : TextAt) : Type 0 where
   pub at : At r.texts r.at x
   pub texts : (r.texts ≡ ts) ⊎ ((Contains ts x → ⊥) × (r.texts ≡ ts ++ x ∷ []))
-  pub once : AreOnce ts → AreOnce r.texts

@@ -1,6 +1,6 @@
 use crate::texts::TextList;
 use mono_list::Shared;
-use mono_syntax::{Op, Ty};
+use mono_syntax::{Name, Op, Ty};
 use name_places::NamePlaces;
 use sqlite_items::Items;
 
@@ -93,4 +93,28 @@ pub struct Tables {
     pub texts: TextList,
     pub types: Items<Shared<Ty>>,
     pub code: Code,
+}
+
+/// The texts of a program, each once, and the types at which it writes to fields.
+#[derive(Drop)]
+pub struct Pool {
+    pub texts: TextList,
+    pub types: Items<Shared<Ty>>,
+}
+
+/// A block by numbers: its names by slot, those that hold values and those that hold threads, its code, and the number of the body
+/// that it runs.
+#[derive(Drop)]
+pub struct Block {
+    pub names: Items<Name>,
+    pub threads: Items<Name>,
+    pub code: Code,
+    pub body: u32,
+}
+
+/// A block by numbers, and the texts and types of the program.
+#[derive(Drop)]
+pub struct WithBlock {
+    pub block: Block,
+    pub pool: Pool,
 }

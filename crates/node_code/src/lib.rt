@@ -2,6 +2,7 @@
 //! its block's names, and what comes out are nodes, whose parts are numbers of other nodes. Contracts say for which trees they stand.
 #![tactic(auto)]
 
+mod blocks;
 mod data;
 
 mod exprs;
@@ -9,6 +10,6 @@ mod put;
 mod stmts;
 mod texts;
 
-pub use data::{ArgNode, BranchNode, Code, Node, Slots, StmtNode, Tables};
-pub use put::Numbered;
+pub use blocks::number_block;
+pub use data::{ArgNode, Block, BranchNode, Code, Node, Pool, Slots, StmtNode, Tables, WithBlock};
 pub use texts::{TextAt, TextList};

@@ -17,7 +17,7 @@ use std::alloc::{AllocError, Global};
 
 /// The number of something, and the tables in which it stands.
 #[derive(Drop)]
-pub struct Numbered {
+pub(crate) struct Numbered {
     pub at: u32,
     pub tables: Tables,
 }

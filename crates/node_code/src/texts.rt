@@ -1,4 +1,5 @@
 ghost use Rattle.std.specs.Prelude.{◌≡◌, [], IfOk};
+ghost use Rattle.node_code.specs.Places.{AreOnce};
 ghost use Rattle.node_code.specs.Texts.{IsText};
 
 use mono_syntax::Name;
@@ -16,12 +17,13 @@ pub struct TextList {
 
 impl Model for TextList {
     ghost use Rattle.std.specs.Prelude.{List, ℕ, ◌≡◌};
+    ghost use Rattle.node_code.specs.Places.{AreOnce};
 
     ghost Value = { List (List ℕ) };
 
     ghost view = { λ t. t.texts };
 
-    ghost invariant = { λ t. t.places ≡ t.texts };
+    ghost invariant = { λ t. (t.places ≡ t.texts) × AreOnce t.texts };
 }
 
 /// A text's number, and all texts.
@@ -54,7 +56,8 @@ impl TextList {
 
     /// The texts by number.
     pub fn into_items(self) -> Items<Name>
-        ensures { result ≡ self }
+        ensures same { result ≡ self }
+        ensures once { AreOnce result }
     {
         let TextList { texts, places } = self;
         texts

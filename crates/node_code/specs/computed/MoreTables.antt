@@ -2,6 +2,7 @@
 use Rattle.std.specs.Prelude.{◌≡◌, ℕ, List, [], ◌∷◌, ◌++◌, length}
 use Rattle.mono_syntax.specs.Ty.{Ty}
 use Rattle.node_code.specs.Places.{At, Keeps}
+use Rattle.node_code.specs.declared.data.Code.{Code}
 use Rattle.node_code.specs.declared.data.Tables.{Tables}
 use Rattle.node_code.specs.declared.put.Many.{Many}
 use Rattle.node_code.specs.declared.put.Numbered.{Numbered}
@@ -23,3 +24,7 @@ pub record HasText (a : Tables) (x : List ℕ) (r : Numbered) : Type 0 where
 -- the type stands behind the others
 abbrev pub IsTyped : Tables → Ty → Numbered → Type 0
 IsTyped a t r = r ≡ record { at = length a.types; tables = record a { types = a.types ++ t ∷ [] } }
+
+-- no code
+abbrev pub no_code : Code
+no_code = record { nodes = []; lists = []; stmts = []; bodies = []; branches = [] }
