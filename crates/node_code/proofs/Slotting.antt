@@ -6,7 +6,7 @@ use Rattle.mono_syntax.specs.CastExpr.{CastExpr}
 use Rattle.mono_syntax.specs.CastStmt.{CastStmt}
 use Rattle.mono_syntax.specs.CastStmtView.{cast_block, cast_branches}
 use Rattle.mono_syntax.specs.CastExprView.{args, cast_exprs}
-use Rattle.node_code.specs.Slotted.{IsSlotted, AreSlotted, ArgsSlotted, StmtSlotted, BlockSlotted, BranchesSlotted}
+use Rattle.node_code.specs.Slotted.{IsSlotted, AreSlotted, ArgsSlotted, StmtSlotted, BlockSlotted, BranchesSlotted, HasSlot, HaveSlots}
 use Rattle.node_code.specs.declared.data.Slots.{Slots}
 
 value_at : (s : Slots) (xs : List CastExpr) (i : ℕ) (d : CastExpr) → i < length xs → AreSlotted s (cast_exprs xs) → IsSlotted s (get_or xs i d)
@@ -45,3 +45,13 @@ branch_at s (x ∷ xs) (suc i) d h u = branch_at s xs i d (omega arith) u.2
 
 pub branch_slotted : (s : Slots) (xs : List CastBranch) (i : ℕ) (x : CastBranch) → i < length xs → x ≡ get_or xs i x → BranchesSlotted s (cast_branches xs) → BranchSlotted s x
 branch_slotted s xs i x h e u = subst (λ (z : CastBranch). BranchSlotted s z) (sym e) (branch_at s xs i x h u)
+
+-- ---- names
+
+name_at : (names xs : List (List ℕ)) (i : ℕ) (d : List ℕ) → i < length xs → HaveSlots names xs → HasSlot names (get_or xs i d)
+name_at names [] i d h u = absurd (omega arith)
+name_at names (x ∷ xs) zero d h u = u.0
+name_at names (x ∷ xs) (suc i) d h u = name_at names xs i d (omega arith) u.1
+
+pub name_slotted : (names xs : List (List ℕ)) (i : ℕ) (x : List ℕ) → i < length xs → x ≡ get_or xs i x → HaveSlots names xs → HasSlot names x
+name_slotted names xs i x h e u = subst (λ (z : List ℕ). HasSlot names z) (sym e) (name_at names xs i x h u)

@@ -1,5 +1,5 @@
 -- Each name that a tree uses is a name of its block, and so has a slot.
-use Rattle.std.specs.Prelude.{ℕ, List}
+use Rattle.std.specs.Prelude.{ℕ, List, [], ◌∷◌}
 use Rattle.mono_syntax.specs.CastExpr.{Args, CastExpr, CastExprs, binary, both, call, either, fit, function, join, local, make, more_args, more_exprs, neg, negation, nil, no_args, no_exprs, number, read, text, truth}
 use Rattle.mono_syntax.specs.CastStmt.{CastBlock, CastBranches, CastElse, CastStmt, assign, give, if_any, loop, more_branches, more_stmts, no_branches, no_else, no_stmts, otherwise, pass, plain, print, start, write}
 use Rattle.node_code.specs.Places.{At}
@@ -8,6 +8,11 @@ use Rattle.node_code.specs.declared.data.Slots.{Slots}
 -- the name has a slot among these
 abbrev pub HasSlot : List (List ℕ) → List ℕ → Type 0
 HasSlot names x = (i : ℕ) × At names i x
+
+-- each of these names has one
+abbrev pub HaveSlots : List (List ℕ) → List (List ℕ) → Type 0
+HaveSlots names [] = Unit {0}
+HaveSlots names (x ∷ xs) = HasSlot names x × HaveSlots names xs
 
 abbrev mutual
   -- the names of an expression

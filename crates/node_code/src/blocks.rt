@@ -1,10 +1,12 @@
 ghost use Rattle.std.specs.Prelude.{◌≡◌, IfOk, map};
 ghost use Rattle.mono_syntax.specs.CastStmtView.{cast_block};
 ghost use Rattle.node_code.specs.Blocks.{slots_of, AddsBlock};
-ghost use Rattle.node_code.specs.Slotted.{BlockSlotted};
+ghost use Rattle.node_code.specs.Places.{At, Each};
+ghost use Rattle.node_code.specs.Slotted.{BlockSlotted, HaveSlots};
 ghost use Rattle.node_code.specs.computed.MoreTables.{no_code};
 
 use crate::data::{Block, Code, Pool, Slots, Tables, WithBlock};
+use crate::exprs::slot;
 use crate::stmts::number_body;
 use mono_syntax::{CastBlock, Name, NamedType};
 use name_places::NamePlaces;
@@ -34,7 +36,7 @@ fn names_of(alloc: Global, list: &[NamedType]) -> Result<Items<Name>, AllocError
 }
 
 /// The slots of a block.
-fn slots_of(alloc: Global, block: &CastBlock) -> Result<Slots, AllocError>
+pub fn slots_of(alloc: Global, block: &CastBlock) -> Result<Slots, AllocError>
     ensures { IfOk result (λ r. r ≡ slots_of block.now) }
 {
     let names = places_of(alloc, block.names.as_slice())?;
@@ -60,21 +62,39 @@ fn no_code(alloc: Global) -> Code
     }
 }
 
-/// A block by numbers: its code stands for its statements, over the program's texts and types, which keep what they have and get those
-/// of the block behind it.
+/// The slots of some names.
+pub fn slots_for(
+    alloc: Global,
+    names: &NamePlaces,
+    list: &[Name],
+) -> Result<Items<u32>, AllocError>
+    // Each is one of the names, as the parameters of a well-typed function are.
+    ensures { HaveSlots names.now list.now → IfOk result (λ r. Each (At names.now) r list.now) }
+{
+    let mut slots = Items::new(alloc);
+    for name in list {
+        slots.push(slot(names, name)?)?;
+    }
+    Ok(slots)
+}
+
+/// A block by numbers, with its slots: its code stands for its statements, over the program's texts and types, which keep what they
+/// have and get those of the block behind it.
 pub fn number_block(
     alloc: Global,
+    slots: &Slots,
     block: &CastBlock,
     pool: Pool,
 ) -> Result<WithBlock, AllocError>
+    requires { slots.now ≡ slots_of block.now }
+
     // Each name that a statement of the block uses is one of its names, as in each well-typed block.
     ensures { BlockSlotted (slots_of block.now) (cast_block block.now.body) → IfOk result (AddsBlock block.now pool) }
 {
-    let slots = slots_of(alloc, block)?;
     let Pool { texts, types } = pool;
     let code = no_code(alloc);
     let tables = Tables { texts, types, code };
-    let body = number_body(alloc, &slots, block.body.get().as_slice(), tables)?;
+    let body = number_body(alloc, slots, block.body.get().as_slice(), tables)?;
     let names = names_of(alloc, block.names.as_slice())?;
     let threads = names_of(alloc, block.threads.as_slice())?;
     let Tables { texts, types, code } = body.tables;

@@ -10,6 +10,6 @@ mod put;
 mod stmts;
 mod texts;
 
-pub use blocks::number_block;
+pub use blocks::{number_block, slots_for, slots_of};
 pub use data::{ArgNode, Block, BranchNode, Code, Node, Pool, Slots, StmtNode, Tables, WithBlock};
 pub use texts::{TextAt, TextList};
