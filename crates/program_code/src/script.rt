@@ -31,7 +31,7 @@ fn script_code(alloc: Global, script: &CastScript) -> Result<ScriptCode, AllocEr
     let with = number_functions(alloc, script.functions.as_slice(), pool)?;
     let slots = slots_of(alloc, &script.main)?;
     let main = number_block(alloc, &slots, &script.main, with.pool)?;
-    let items = script.scoped.get().script.get().items.as_slice();
+    let items = script.scoped.get().script.get().items.get().as_slice();
     Ok(ScriptCode {
         texts: main.pool.texts.into_items(),
         types: main.pool.types,
