@@ -51,13 +51,13 @@ block_added b p s k l r ns ts e f g w n h u =
 pub block_kept : (p q : Pool) (b : CastBlock) (r : Block) → PoolGrows p q → IsBlock p b r → IsBlock q b r
 block_kept p q b r g h =
     let k : Grows (tables p r.code) h.trees (tables q r.code) h.trees = record {
-        texts = g.texts;
-        types = g.types;
-        lists = λ n x i. i;
-        branches = λ n x i. i;
-        exprs = λ n x i. i;
-        stmts = λ n x i. i;
-        bodies = λ n x i. i;
+      texts = g.texts;
+      types = g.types;
+      lists = λ n x i. i;
+      branches = λ n x i. i;
+      exprs = λ n x i. i;
+      stmts = λ n x i. i;
+      bodies = λ n x i. i;
     } in
     record {
       names = h.names;

@@ -122,13 +122,13 @@ put_node s a t m d e h =
     let old = h.trees in
     let new : Trees = record old { exprs = old.exprs ++ e ∷ [] } in
     let g : Grows t old (with_node t d) new = record {
-        texts = λ n x i. i;
-        types = λ n x i. i;
-        lists = λ n x i. i;
-        branches = λ n x i. i;
-        exprs = keeps_more old.exprs e;
-        stmts = λ n x i. i;
-        bodies = λ n x i. i;
+      texts = λ n x i. i;
+      types = λ n x i. i;
+      lists = λ n x i. i;
+      branches = λ n x i. i;
+      exprs = keeps_more old.exprs e;
+      stmts = λ n x i. i;
+      bodies = λ n x i. i;
     } in
     record {
       trees = new;
@@ -161,13 +161,13 @@ pub texted : (s : Slots) (a : Tables) (m : Trees) (x : List ℕ) (r : Numbered) 
 texted s a m x r ok h =
     let b = r.tables in
     let g : Grows a m b m = record {
-        texts = h.keeps;
-        types = subst (λ (z : List Ty). Keeps a.types z) (sym h.types) (λ n y i. i);
-        lists = subst (λ (z : Code). Keeps (a.code).lists z.lists) (sym h.code) (λ n y i. i);
-        branches = subst (λ (z : Code). Keeps (a.code).branches z.branches) (sym h.code) (λ n y i. i);
-        exprs = λ n y i. i;
-        stmts = λ n y i. i;
-        bodies = λ n y i. i;
+      texts = h.keeps;
+      types = subst (λ (z : List Ty). Keeps a.types z) (sym h.types) (λ n y i. i);
+      lists = subst (λ (z : Code). Keeps (a.code).lists z.lists) (sym h.code) (λ n y i. i);
+      branches = subst (λ (z : Code). Keeps (a.code).branches z.branches) (sym h.code) (λ n y i. i);
+      exprs = λ n y i. i;
+      stmts = λ n y i. i;
+      bodies = λ n y i. i;
     } in
     record {
       trees = m;

@@ -30,13 +30,13 @@ put_stmt s a t m d e h =
     let new : Trees = record old { stmts = old.stmts ++ e ∷ [] } in
     let b : Tables = with_stmts t ((t.code).stmts ++ d ∷ []) in
     let g : Grows t old b new = record {
-        texts = λ n x i. i;
-        types = λ n x i. i;
-        lists = λ n x i. i;
-        branches = λ n x i. i;
-        exprs = λ n x i. i;
-        stmts = keeps_more old.stmts e;
-        bodies = λ n x i. i;
+      texts = λ n x i. i;
+      types = λ n x i. i;
+      lists = λ n x i. i;
+      branches = λ n x i. i;
+      exprs = λ n x i. i;
+      stmts = keeps_more old.stmts e;
+      bodies = λ n x i. i;
     } in
     record {
       trees = new;
@@ -63,13 +63,13 @@ put_body s a t m ns e h =
     let new : Trees = record old { bodies = old.bodies ++ e ∷ [] } in
     let b : Tables = with_bodies t ((t.code).bodies ++ ns ∷ []) in
     let g : Grows t old b new = record {
-        texts = λ n x i. i;
-        types = λ n x i. i;
-        lists = λ n x i. i;
-        branches = λ n x i. i;
-        exprs = λ n x i. i;
-        stmts = λ n x i. i;
-        bodies = keeps_more old.bodies e;
+      texts = λ n x i. i;
+      types = λ n x i. i;
+      lists = λ n x i. i;
+      branches = λ n x i. i;
+      exprs = λ n x i. i;
+      stmts = λ n x i. i;
+      bodies = keeps_more old.bodies e;
     } in
     record {
       trees = new;
@@ -94,13 +94,13 @@ pub put_branches : (s : Slots) (a t : Tables) (m : Trees) (ns : List BranchNode)
 put_branches s a t m ns bs h =
     let b : Tables = with_branches t ((t.code).branches ++ ns ∷ []) in
     let g : Grows t h.trees b h.trees = record {
-        texts = λ n x i. i;
-        types = λ n x i. i;
-        lists = λ n x i. i;
-        branches = keeps_more (t.code).branches ns;
-        exprs = λ n x i. i;
-        stmts = λ n x i. i;
-        bodies = λ n x i. i;
+      texts = λ n x i. i;
+      types = λ n x i. i;
+      lists = λ n x i. i;
+      branches = keeps_more (t.code).branches ns;
+      exprs = λ n x i. i;
+      stmts = λ n x i. i;
+      bodies = λ n x i. i;
     } in
     record {
       trees = h.trees;
@@ -115,13 +115,13 @@ pub typed : (s : Slots) (a : Tables) (m : Trees) (y : Ty) (r : Numbered) → IsM
 typed s a m y r ok e =
     let b : Tables = record a { types = a.types ++ y ∷ [] } in
     let g : Grows a m b m = record {
-        texts = λ n x i. i;
-        types = keeps_more a.types y;
-        lists = λ n x i. i;
-        branches = λ n x i. i;
-        exprs = λ n x i. i;
-        stmts = λ n x i. i;
-        bodies = λ n x i. i;
+      texts = λ n x i. i;
+      types = keeps_more a.types y;
+      lists = λ n x i. i;
+      branches = λ n x i. i;
+      exprs = λ n x i. i;
+      stmts = λ n x i. i;
+      bodies = λ n x i. i;
     } in
     subst (λ (z : Numbered). Gives s a m z.tables (λ t. At (z.tables).types z.at y)) (sym e) (record {
       trees = m;

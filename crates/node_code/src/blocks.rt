@@ -63,11 +63,7 @@ fn no_code(alloc: Global) -> Code
 }
 
 /// The slots of some names.
-pub fn slots_for(
-    alloc: Global,
-    names: &NamePlaces,
-    list: &[Name],
-) -> Result<Items<u32>, AllocError>
+pub fn slots_for(alloc: Global, names: &NamePlaces, list: &[Name]) -> Result<Items<u32>, AllocError>
     // Each is one of the names, as the parameters of a well-typed function are.
     ensures { HaveSlots names.now list.now → IfOk result (λ r. Each (At names.now) r list.now) }
 {

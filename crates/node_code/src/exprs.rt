@@ -216,12 +216,7 @@ pub(crate) fn number_args(
 /// Their nodes.
 #[cycle(exprs)]
 #[tactic(auto, using(mono_syntax::proofs::Parts::parts))]
-fn arg_nodes(
-    alloc: Global,
-    slots: &Slots,
-    list: &[Arg],
-    tables: Tables,
-) -> Result<Many, AllocError>
+fn arg_nodes(alloc: Global, slots: &Slots, list: &[Arg], tables: Tables) -> Result<Many, AllocError>
     ensures { (m : Trees) → IsMeant slots.now tables m → ArgsSlotted slots.now (args list.now) → IfOk result (GivesArgs slots.now tables m list.now) }
 {
     let mut tables = tables;

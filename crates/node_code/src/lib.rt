@@ -4,7 +4,6 @@
 
 mod blocks;
 mod data;
-
 mod exprs;
 mod put;
 mod stmts;

@@ -1,5 +1,6 @@
 ghost use Rattle.std.specs.Prelude.{◌≡◌, IfOk, IfErr};
 ghost use Rattle.mono_syntax.specs.declared.refusal.Refusal.{Refusal};
+ghost use Rattle.mono_tree.specs.TypedPrograms.{IsTypedProgram};
 ghost use Rattle.program_code.specs.Counts.{IsTooMany, AreFew};
 ghost use Rattle.program_code.specs.SameScript.{IsScript, IsSlottedScript};
 ghost use Rattle.script_rules.specs.LoadFaults.{IsFault, Refuses};
@@ -46,8 +47,7 @@ fn script_code(alloc: Global, script: &CastScript) -> Result<ScriptCode, AllocEr
 
 /// The script by numbers. Refused at its start where it has over 4,095 functions, else over 1,023 classes, else over 1,048,576 sites.
 pub fn number_script(alloc: Global, script: &CastScript) -> Result<ScriptCode, LoadFault>
-    // Each name is one of its block's, as in a well-typed script.
-    requires { IsSlottedScript script.now }
+    requires { IsTypedProgram script.now }
     ensures same { IfOk result (IsScript script.now) }
     ensures few { IfOk result (λ _. AreFew script.now) }
     ensures refused { IfErr result (IsFault (IsTooMany script.now)) }

@@ -71,9 +71,15 @@ node_of-returns-in_ok-list-in-Call t c = λ m ok u.
     let a = c.in_ok-callee-in-Call.ensures m ok v.0 in
     let same = c.as_slice-in-Call.ensures in
     let l = c.in_ok-list-in-Call.ensures a.trees a.meant (subst (λ (l : List Arg). ArgsSlotted s (args l)) (sym same) v.1) in
-    gives_on _ _ _ _ _ _ _ _ a l
-    (c.in-Call.callee, l.here.0, c.as_slice-in-Call.result.now, (l.grows).exprs c.in_ok-callee-in-Call.callee.at c.in-Call.callee a.here,
-      l.here.1, l.here.2, ap cast_expr_of c.in-Call.is ∙ ap (λ (l : List Arg). call c.in-Call.site c.in-Call.callee (args l)) (sym same))
+    gives_on _ _ _ _ _ _ _ _ a l (
+      c.in-Call.callee,
+      l.here.0,
+      c.as_slice-in-Call.result.now,
+      (l.grows).exprs c.in_ok-callee-in-Call.callee.at c.in-Call.callee a.here,
+      l.here.1,
+      l.here.2,
+      ap cast_expr_of c.in-Call.is ∙ ap (λ (l : List Arg). call c.in-Call.site c.in-Call.callee (args l)) (sym same),
+    )
 
 pub value_nodes-loop-e-preserved : goal.value_nodes-loop-e-preserved
 value_nodes-loop-e-preserved t c = λ m ok u.

@@ -74,10 +74,17 @@ stmt_node-returns-in_ok-value-in-Write t c = λ m ok u.
       trees = b.trees;
       grows = grows_on y.grows (grows_on a.grows behind);
       meant = b.meant;
-      here = (c.in-Write.is', c.in-Write.object, c.in-Write.field, c.in-Write.value,
+      here = (
+        c.in-Write.is',
+        c.in-Write.object,
+        c.in-Write.field,
+        c.in-Write.value,
         (grows_on a.grows behind).types c.in_ok-is-in-Write.is'.at c.in-Write.is' y.here,
         behind.exprs c.in_ok-object-in-Write.object.at c.in-Write.object a.here,
-        (b.grows).texts c.in_ok-field-in-Write.field.at c.in-Write.field x.here, b.here, ap cast_stmt_of c.in-Write.is);
+        (b.grows).texts c.in_ok-field-in-Write.field.at c.in-Write.field x.here,
+        b.here,
+        ap cast_stmt_of c.in-Write.is,
+      );
     }
 
 pub stmt_node-returns-in_ok-list-in-Start : goal.stmt_node-returns-in_ok-list-in-Start
@@ -88,10 +95,17 @@ stmt_node-returns-in_ok-list-in-Start t c = λ m ok u.
     let a = c.in_ok-callee-in-Start.ensures m ok v.1 in
     let same = c.as_slice-in-Start.ensures in
     let l = c.in_ok-list-in-Start.ensures a.trees a.meant (subst (λ (l : List Arg). ArgsSlotted s (args l)) (sym same) v.2) in
-    gives_on _ _ _ _ _ _ _ _ a l
-    (c.in-Start.name, c.in-Start.callee, l.here.0, c.as_slice-in-Start.result.now, x,
-      (l.grows).exprs c.in_ok-callee-in-Start.callee.at c.in-Start.callee a.here, l.here.1, l.here.2,
-      ap cast_stmt_of c.in-Start.is ∙ ap (λ (l : List Arg). start c.in-Start.name c.in-Start.site c.in-Start.callee (args l)) (sym same))
+    gives_on _ _ _ _ _ _ _ _ a l (
+      c.in-Start.name,
+      c.in-Start.callee,
+      l.here.0,
+      c.as_slice-in-Start.result.now,
+      x,
+      (l.grows).exprs c.in_ok-callee-in-Start.callee.at c.in-Start.callee a.here,
+      l.here.1,
+      l.here.2,
+      ap cast_stmt_of c.in-Start.is ∙ ap (λ (l : List Arg). start c.in-Start.name c.in-Start.site c.in-Start.callee (args l)) (sym same),
+    )
 
 pub stmt_node-returns-in_ok-last-in-If : goal.stmt_node-returns-in_ok-last-in-If
 stmt_node-returns-in_ok-last-in-If t c = λ m ok u.
@@ -101,10 +115,15 @@ stmt_node-returns-in_ok-last-in-If t c = λ m ok u.
     let same : given ≡ c.in-If.branches = c.as_slice-in-If.ensures ∙ c.get.ensures in
     let l = c.in_ok-list-in-If.ensures m ok (subst (λ (l : List CastBranch). BranchesSlotted s (cast_branches l)) (sym same) v.0) in
     let b = c.in_ok-last-in-If.ensures l.trees l.meant v.1 in
-    gives_on _ _ _ _ _ _ _ _ l b
-    (l.here.0, given, c.in-If.last, (b.grows).branches c.in_ok-list-in-If.list.at l.here.0 l.here.1,
-      branches_kept s c.in_ok-list-in-If.list.tables c.in_ok-last-in-If.last.tables l.trees b.trees b.grows l.here.0 given l.here.2, b.here,
-      ap cast_stmt_of c.in-If.is ∙ ap (λ (l : List CastBranch). if_any (cast_branches l) (cast_else_block c.in-If.last)) (sym same))
+    gives_on _ _ _ _ _ _ _ _ l b (
+      l.here.0,
+      given,
+      c.in-If.last,
+      (b.grows).branches c.in_ok-list-in-If.list.at l.here.0 l.here.1,
+      branches_kept s c.in_ok-list-in-If.list.tables c.in_ok-last-in-If.last.tables l.trees b.trees b.grows l.here.0 given l.here.2,
+      b.here,
+      ap cast_stmt_of c.in-If.is ∙ ap (λ (l : List CastBranch). if_any (cast_branches l) (cast_else_block c.in-If.last)) (sym same),
+    )
 
 pub stmt_node-returns-in_ok-body-in-While : goal.stmt_node-returns-in_ok-body-in-While
 stmt_node-returns-in_ok-body-in-While t c = λ m ok u.
@@ -114,6 +133,10 @@ stmt_node-returns-in_ok-body-in-While t c = λ m ok u.
     let same : given ≡ c.in-While.body = c.as_slice-in-While.ensures ∙ c.get-in-While.ensures in
     let a = c.in_ok-condition-in-While.ensures m ok v.0 in
     let b = c.in_ok-body-in-While.ensures a.trees a.meant (subst (λ (l : List CastStmt). BlockSlotted s (cast_block l)) (sym same) v.1) in
-    gives_on _ _ _ _ _ _ _ _ a b
-    (c.in-While.condition, given, (b.grows).exprs c.in_ok-condition-in-While.condition.at c.in-While.condition a.here, b.here,
-      ap cast_stmt_of c.in-While.is ∙ ap (λ (l : List CastStmt). loop c.in-While.condition (cast_block l)) (sym same))
+    gives_on _ _ _ _ _ _ _ _ a b (
+      c.in-While.condition,
+      given,
+      (b.grows).exprs c.in_ok-condition-in-While.condition.at c.in-While.condition a.here,
+      b.here,
+      ap cast_stmt_of c.in-While.is ∙ ap (λ (l : List CastStmt). loop c.in-While.condition (cast_block l)) (sym same),
+    )
