@@ -1,0 +1,2 @@
+-- what one call adds to the tables
+pub mod MoreTables

@@ -1,0 +1,6 @@
+-- Rules.
+
+-- how many functions, classes and sites there may be
+pub mod Counts
+-- the same script by numbers
+pub mod SameScript
