@@ -4,3 +4,5 @@
 pub mod Counts
 -- the same script by numbers
 pub mod SameScript
+-- a list that has each type of a script
+pub mod TypesIn
