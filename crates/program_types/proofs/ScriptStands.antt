@@ -1,5 +1,5 @@
 -- The closed list of the types that a script writes has each type of the script with its casts.
-use Rattle.std.proofs.Common.{inl, inr, List, [], ◌∷◌, sym, subst}
+use Rattle.std.proofs.Common.{inl, inr, List, [], ◌∷◌, refl, sym, subst}
 use Rattle.std.specs.Prelude.{Contains}
 use Rattle.mono_syntax.specs.declared.cast.CastClass.{CastClass}
 use Rattle.mono_syntax.specs.declared.cast.CastFunction.{CastFunction}
