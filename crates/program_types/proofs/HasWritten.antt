@@ -1,6 +1,5 @@
 -- A set of types that has the base types, those that a script writes, and with a type its parts.
-use Rattle.std.proofs.Common.{◌≡◌, inl, inr, ◌⊎◌, ℕ, List, [], ◌∷◌, ◌++◌, Bool, true, false, Option, Some, None, refl, sym, subst, bytes_eq, if◌then◌else◌}
-use Rattle.std.specs.Prelude.{Contains}
+use Rattle.std.proofs.Common.{◌≡◌, inl, inr, ◌⊎◌, ℕ, List, [], ◌∷◌, ◌++◌, Some, refl, sym, bytes_eq, if◌then◌else◌}
 use Rattle.std.specs.Ordering.{nat_cmp, is_gt}
 use Rattle.std.specs.Cmp.Lexicographic.{slice_cmp}
 use Rattle.mono_list.proofs.Cases.{split, some_is, none_some}
@@ -8,7 +7,7 @@ use Rattle.mono_syntax.specs.declared.tree.ClassDef.{ClassDef}
 use Rattle.mono_syntax.specs.declared.tree.FuncDef.{FuncDef}
 use Rattle.mono_syntax.specs.declared.tree.Script.{Script}
 use Rattle.mono_syntax.specs.Ann.{Ann}
-use Rattle.mono_syntax.specs.Ty.{Ty, dyn, int, bool, str, nil, fun, obj, Tys, no_tys, more_tys, Fields, no_fields, more_fields}
+use Rattle.mono_syntax.specs.Ty.{Ty, dyn, int, bool, str, nil, Tys, no_tys, more_tys, Fields, no_fields, more_fields}
 use Rattle.mono_syntax.specs.TyView.{tys_list}
 use Rattle.mono_tree.specs.ClosedList.{IsAmong, IsOfField, IsPart}
 use Rattle.script_rules.specs.Scoping.{class_list, function_list}

@@ -112,7 +112,7 @@ module _ (s : Script) (Has : Ty → Type 0) (has : HasWritten s Has) where
       let start = function_starts ns h.names d h.result names st h.scope in
       let front = param_parts d.params ++ any_ann d.result in
       let body : Stand s (block_parts (block d.body)) =
-          subst (λ (l : List Part). Stand s l) (sym (block_part_list d.body)) (stand_right s front (body_parts d.body) st) in
+      subst (λ (l : List Part). Stand s l) (sym (block_part_list d.body)) (stand_right s front (body_parts d.body) st) in
       let rest = block_leaves s Has has h.names h.behind ss h.inside (block d.body) (cast_block f.block.body) h.body start.0 body sites in
       let end = end_own s Has has (may_end (block d.body)) d.name.place h.result start.1 in
       let type = subst (λ (cs : List ClassDef). IsFunctionType cs d f.ty) names.classes h.type in (

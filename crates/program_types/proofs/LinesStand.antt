@@ -1,5 +1,5 @@
 -- The types of expressions and of all sites in a script's statements are there.
-use Rattle.std.proofs.Common.{List, [], ◌∷◌, ◌++◌, sym, subst}
+use Rattle.std.proofs.Common.{List, ◌++◌, sym, subst}
 use Rattle.mono_syntax.specs.declared.tree.Script.{Script}
 use Rattle.mono_syntax.specs.CastExpr.{CastExpr}
 use Rattle.mono_syntax.specs.CastStmt.{CastStmt, CastBlock, CastBranches, CastElse}

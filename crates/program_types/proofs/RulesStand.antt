@@ -10,7 +10,6 @@ use Rattle.mono_syntax.specs.Expr.{Expr}
 use Rattle.mono_syntax.specs.Stmt as stmt
 use Rattle.mono_syntax.specs.Stmt.{Stmt}
 use Rattle.mono_syntax.specs.Ty.{Ty, dyn, int, bool, str, nil, fun, obj}
-use Rattle.mono_syntax.specs.TyView.{tys_list}
 use Rattle.mono_tree.specs.TypedPrograms.{type_of_name}
 use Rattle.script_rules.specs.Definitions.{function_named}
 use Rattle.script_rules.specs.Scoping.{class_list, function_list}
@@ -125,7 +124,7 @@ module _ (s : Script) (Has : Ty → Type 0) (has : HasWritten s Has) where
   named_has ns (Some u) x t names e h = subst Has (sym h) (name_has Has ns.values x u names.values e)
   named_has ns None x t names e h =
       let at : IsFunctionNamed (class_list s) (function_named ns.functions x) t =
-          subst (λ (cs : List ClassDef). IsFunctionNamed cs (function_named ns.functions x) t) names.classes h in
+      subst (λ (cs : List ClassDef). IsFunctionNamed cs (function_named ns.functions x) t) names.classes h in
       function_named_has x (function_named ns.functions x) t (ap (λ (fs : List FuncDef). function_named fs x) (sym names.functions)) at
 
   -- ---- expressions
@@ -151,7 +150,7 @@ module _ (s : Script) (Has : Ty → Type 0) (has : HasWritten s Has) where
       (subst (HasAll Has) (sym k.1) (type, tt), type)
   rule_has ns (expr.call p f es) ts r names st h k =
       let at : CallRule (class_list s) (class_called ns.classes f) ts r =
-          subst (λ (cs : List ClassDef). CallRule cs (class_called ns.classes f) ts r) names.classes k in
+      subst (λ (cs : List ClassDef). CallRule cs (class_called ns.classes f) ts r) names.classes k in
       call_has f (class_called ns.classes f) ts r (ap (λ (cs : List ClassDef). class_called cs f) (sym names.classes)) h at
   rule_has ns (expr.join p w) ts r names st h k = (subst (HasAll Has) (sym k.1) tt, name_has Has ns.threads w.text r.gives names.threads k.0)
 

@@ -20,7 +20,7 @@ use Rattle.class_types.proofs.OrderLaws.{In, contains-in}
 use Rattle.program_types.proofs.HasWritten.{HasWritten}
 use Rattle.program_types.proofs.WrittenStand.{list_has}
 use Rattle.program_types.proofs.RulesStand.{HasNames}
-use Rattle.program_types.proofs.SitesStand.{HasSites, site_among}
+use Rattle.program_types.proofs.SitesStand.{site_among}
 use Rattle.program_types.proofs.ItemsStand.{HasBlock, HasFunction, HasFunctions, ItemsLeave, main_has, items_leave}
 
 -- ---- one of many
@@ -59,10 +59,10 @@ script_stands d p written l scope h types closed =
     let has = list_has d.script written l types closed in
     let start = main_has d.script (Contains l) has h.names h.scope in
     let leave : ItemsLeave d.script (Contains l) h.behind h.all p.functions =
-        items_leave d.script (Contains l) has h.names h.behind [] h.all d.script.items p.functions (cast_block p.main.body) h.items
-        (λ k i. i) start (λ x i. i) tt in
+    items_leave d.script (Contains l) has h.names h.behind [] h.all d.script.items p.functions (cast_block p.main.body) h.items
+    (λ k i. i) start (λ x i. i) tt in
     let functions : (f : CastFunction) → Contains p.functions f → HasFunction (Contains l) f =
-        λ f c. function_among (Contains l) p.functions f leave.functions (contains-in f p.functions c) in
+    λ f c. function_among (Contains l) p.functions f leave.functions (contains-in f p.functions c) in
     let main : HasBlock (Contains l) p.main = record {
       names = subst (HasNames (Contains l)) (sym h.values) start.values;
       threads = subst (HasNames (Contains l)) (sym h.threads) (leave.names).threads;

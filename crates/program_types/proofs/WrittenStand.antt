@@ -1,5 +1,5 @@
 -- What has the types that a script writes, the base types and all parts has the type of each annotation, class and function.
-use Rattle.std.proofs.Common.{◌≡◌, ◌∙◌, inl, inr, ◌⊎◌, ℕ, List, [], ◌∷◌, ◌++◌, Option, Some, None, refl, sym, ap, subst, zero, suc, ◌≤◌, length, arith}
+use Rattle.std.proofs.Common.{◌≡◌, ◌∙◌, inl, inr, List, [], ◌∷◌, ◌++◌, Option, Some, None, refl, sym, ap, subst, suc, ◌≤◌, length, arith}
 use Rattle.std.specs.Prelude.{Contains}
 use Rattle.mono_syntax.specs.declared.tree.ClassDef.{ClassDef}
 use Rattle.mono_syntax.specs.declared.tree.FieldDef.{FieldDef}
@@ -9,8 +9,8 @@ use Rattle.mono_syntax.specs.declared.tree.Item.TheVariants as item
 use Rattle.mono_syntax.specs.declared.tree.Param.{Param}
 use Rattle.mono_syntax.specs.declared.tree.Script.{Script}
 use Rattle.mono_syntax.specs.Ann.{Ann}
-use Rattle.mono_syntax.specs.Ty.{Ty, dyn, int, bool, str, nil, fun, obj, Tys, no_tys, more_tys, Fields, no_fields, more_fields}
-use Rattle.mono_tree.specs.ClosedList.{base_types, IsAmong, IsOfField, IsPart, IsClosed, in_base, in_given, in_part, IsClosedList}
+use Rattle.mono_syntax.specs.Ty.{Ty, dyn, int, bool, str, nil, fun, obj, Tys, no_tys, more_tys, Fields}
+use Rattle.mono_tree.specs.ClosedList.{IsAmong, IsOfField, IsPart, IsClosed, in_base, in_given, in_part, IsClosedList}
 use Rattle.mono_tree.proofs.ClosedMembers.{members_in, set_has}
 use Rattle.script_rules.specs.Definitions.{classes_of, functions_of}
 use Rattle.script_rules.specs.Scoping.{class_list}
