@@ -18,7 +18,8 @@ use Rattle.script_rules.specs.BlockNames.{Target, firsts, all_targets}
 use Rattle.script_rules.specs.Definitions.{functions_of}
 use Rattle.script_rules.specs.Scoping.{class_list, function_list, main_block}
 use Rattle.script_rules.specs.SourceCasts.{AreNames}
-use Rattle.script_rules.specs.SourceParts.{Part, annotation, any_ann, stmt_parts, block_parts, param_parts, body_parts, item_parts, parts_of}
+use Rattle.script_rules.specs.SourceParts.{Part, annotation, any_ann, parts_of}
+use Rattle.script_rules.specs.SourceParts.{stmt_parts, block_parts, param_parts, body_parts, item_parts}
 use Rattle.script_rules.specs.Writes.{WritesAny, IsFunctionType}
 use Rattle.static_types.specs.BodyEnds.{may_end}
 use Rattle.static_types.specs.Names.{Names}
@@ -106,8 +107,9 @@ module _ (s : Script) (Has : Ty → Type 0) (has : HasWritten s Has) where
 
   -- ---- items
 
-  function_leaves : (ns : Names) (ss us : List TypedSite) (d : FuncDef) (f : CastFunction) → ElaboratesFunction ns.classes ns.functions ss d f us
-      → In d (function_list s) → HasScope s Has ns → Stand s (item_parts (item.Def d)) → HasSites Has ss → HasFunction Has f × HasSites Has us
+  function_leaves : (ns : Names) (ss us : List TypedSite) (d : FuncDef) (f : CastFunction)
+      → ElaboratesFunction ns.classes ns.functions ss d f us → In d (function_list s) → HasScope s Has ns
+      → Stand s (item_parts (item.Def d)) → HasSites Has ss → HasFunction Has f × HasSites Has us
   function_leaves ns ss us d f h there names st sites =
       let start = function_starts ns h.names d h.result names st h.scope in
       let front = param_parts d.params ++ any_ann d.result in

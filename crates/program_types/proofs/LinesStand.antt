@@ -13,7 +13,9 @@ use Rattle.static_types.specs.Names.{Names}
 use Rattle.static_types.specs.Parts.{parts}
 use Rattle.cast_rules.specs.declared.site.TypedSite.{TypedSite}
 use Rattle.cast_rules.specs.Elaborates.{uses_of, Elaborates, elaborates, ElaborateAll, of_none, of_more}
-use Rattle.cast_rules.specs.ElaboratesLines.{ElaboratesLine, line, branches, loops, ElaboratesGuarded, guards, ElaborateBranches, no_branch, next_branch, ElaboratesElse, no_last, at_last, ElaboratesBlock, ends, goes_on}
+use Rattle.cast_rules.specs.ElaboratesLines.{ElaboratesLine, line, branches, loops, ElaboratesGuarded, guards}
+use Rattle.cast_rules.specs.ElaboratesLines.{ElaborateBranches, no_branch, next_branch, ElaboratesElse, no_last, at_last}
+use Rattle.cast_rules.specs.ElaboratesLines.{ElaboratesBlock, ends, goes_on}
 use Rattle.cast_rules.specs.OwnSites.{own_sites, line_sites}
 use Rattle.cast_rules.specs.Sites.{standing}
 use Rattle.cast_rules.proofs.RightTypes.{Stand, stand_left, stand_right}
@@ -48,8 +50,8 @@ module _ (s : Script) (Has : Ty → Type 0) (has : HasWritten s Has) where
   Leaves ms us = HasScope s Has ms × HasSites Has us
 
   mutual
-    pub line_leaves : (ns ms : Names) (ss us : List TypedSite) (l : Stmt) (c : CastStmt) → ElaboratesLine ns ss l c ms us → HasScope s Has ns
-        → Stand s (stmt_parts l) → HasSites Has ss → Leaves ms us
+    pub line_leaves : (ns ms : Names) (ss us : List TypedSite) (l : Stmt) (c : CastStmt) → ElaboratesLine ns ss l c ms us
+        → HasScope s Has ns → Stand s (stmt_parts l) → HasSites Has ss → Leaves ms us
     line_leaves ns ms ss us l c (line {us = vs} {vs = ws} {ts = ts} {cs = cs} {ds = ds} asks g rule h u n node a) names st sites =
         let inside = all_have ns ss vs (line_parts l) ts cs g names (line_stands s l st) sites in
         let types = line_has s Has has ns ms l ts asks names inside.0 rule in
@@ -59,10 +61,12 @@ module _ (s : Script) (Has : Ty → Type 0) (has : HasWritten s Has) where
     line_leaves ns ms ss us l c (branches {ks = ks} {us = vs} {bs = bs} {last = last} {cs = cs} {d = d} g h) names st sites =
         let first = branches_leave ns ks ss vs bs cs g names (stand_left s (branch_parts bs) (else_parts last) st) sites in
         else_leaves ks ms vs us last d h first.0 (stand_right s (branch_parts bs) (else_parts last) st) first.1
-    line_leaves ns ms ss us l c (loops {e = e} {body = body} {c = k} {d = d} g) names st sites = guarded_leaves ns ms ss us e body k d g names st sites
+    line_leaves ns ms ss us l c (loops {e = e} {body = body} {c = k} {d = d} g) names st sites =
+        guarded_leaves ns ms ss us e body k d g names st sites
 
     guarded_leaves : (ns ms : Names) (ss us : List TypedSite) (e : Expr) (body : Block) (c : CastExpr) (d : CastBlock)
-        → ElaboratesGuarded ns ss e body c d ms us → HasScope s Has ns → Stand s (expr_parts e ++ block_parts body) → HasSites Has ss → Leaves ms us
+        → ElaboratesGuarded ns ss e body c d ms us → HasScope s Has ns → Stand s (expr_parts e ++ block_parts body)
+        → HasSites Has ss → Leaves ms us
     guarded_leaves ns ms ss us e body c d (guards {us = vs} {vs = ws} {t = t} {c = k} g h u b) names st sites =
         let first = expr_has ns ss vs e t k g names (stand_left s (expr_parts e) (block_parts body) st) sites in
         let used = use_has Has vs ws (place_of e) t bool k c u first.0 has.of_bool first.1 in
@@ -71,13 +75,14 @@ module _ (s : Script) (Has : Ty → Type 0) (has : HasWritten s Has) where
     branches_leave : (ns ms : Names) (ss us : List TypedSite) (bs : Branches) (cs : CastBranches) → ElaborateBranches ns ss bs cs ms us
         → HasScope s Has ns → Stand s (branch_parts bs) → HasSites Has ss → Leaves ms us
     branches_leave ns ms ss us bs cs no_branch names st sites = (names, sites)
-    branches_leave ns ms ss us bs cs (next_branch {ks = ks} {us = vs} {e = e} {body = body} {bs = bs1} {c = c} {d = d} {cs = cs1} g h) names st sites =
+    branches_leave ns ms ss us bs cs
+        (next_branch {ks = ks} {us = vs} {e = e} {body = body} {bs = bs1} {c = c} {d = d} {cs = cs1} g h) names st sites =
         let front = expr_parts e ++ block_parts body in
         let first = guarded_leaves ns ks ss vs e body c d g names (stand_left s front (branch_parts bs1) st) sites in
         branches_leave ks ms vs us bs1 cs1 h first.0 (stand_right s front (branch_parts bs1) st) first.1
 
-    else_leaves : (ns ms : Names) (ss us : List TypedSite) (last : Else) (d : CastElse) → ElaboratesElse ns ss last d ms us → HasScope s Has ns
-        → Stand s (else_parts last) → HasSites Has ss → Leaves ms us
+    else_leaves : (ns ms : Names) (ss us : List TypedSite) (last : Else) (d : CastElse) → ElaboratesElse ns ss last d ms us
+        → HasScope s Has ns → Stand s (else_parts last) → HasSites Has ss → Leaves ms us
     else_leaves ns ms ss us last d no_last names st sites = (names, sites)
     else_leaves ns ms ss us last d (at_last {body = body} {d = b} g) names st sites = block_leaves ns ms ss us body b g names st sites
 

@@ -1,5 +1,6 @@
 -- What the rules ask and give is there, where the types of what may be named and of the parts are.
-use Rattle.std.proofs.Common.{◌≡◌, inl, inr, ℕ, List, [], ◌∷◌, ◌++◌, Bool, true, false, Option, Some, None, refl, sym, ap, subst, bytes_eq, if◌then◌else◌}
+use Rattle.std.proofs.Common.{◌≡◌, refl, sym, ap, subst, inl, inr, ℕ, List, [], ◌∷◌, ◌++◌}
+use Rattle.std.proofs.Common.{Bool, true, false, Option, Some, None, bytes_eq, if◌then◌else◌}
 use Rattle.mono_list.proofs.Cases.{split, some_is, none_some}
 use Rattle.mono_syntax.specs.declared.cast.NamedType.{NamedType}
 use Rattle.mono_syntax.specs.declared.tree.ClassDef.{ClassDef}
@@ -120,7 +121,8 @@ module _ (s : Script) (Has : Ty → Type 0) (has : HasWritten s Has) where
   function_named_has x None t e h = absurd h
   function_named_has x (Some d) t e h = has.function d t (function_among (function_list s) x d e) h
 
-  named_has : (ns : Names) (o : Option Ty) (x : List ℕ) (t : Ty) → HasScope s Has ns → type_of_name ns.values x ≡ o → IsNamed ns o x t → Has t
+  named_has : (ns : Names) (o : Option Ty) (x : List ℕ) (t : Ty) → HasScope s Has ns → type_of_name ns.values x ≡ o
+      → IsNamed ns o x t → Has t
   named_has ns (Some u) x t names e h = subst Has (sym h) (name_has Has ns.values x u names.values e)
   named_has ns None x t names e h =
       let at : IsFunctionNamed (class_list s) (function_named ns.functions x) t =
@@ -152,7 +154,8 @@ module _ (s : Script) (Has : Ty → Type 0) (has : HasWritten s Has) where
       let at : CallRule (class_list s) (class_called ns.classes f) ts r =
       subst (λ (cs : List ClassDef). CallRule cs (class_called ns.classes f) ts r) names.classes k in
       call_has f (class_called ns.classes f) ts r (ap (λ (cs : List ClassDef). class_called cs f) (sym names.classes)) h at
-  rule_has ns (expr.join p w) ts r names st h k = (subst (HasAll Has) (sym k.1) tt, name_has Has ns.threads w.text r.gives names.threads k.0)
+  rule_has ns (expr.join p w) ts r names st h k =
+      (subst (HasAll Has) (sym k.1) tt, name_has Has ns.threads w.text r.gives names.threads k.0)
 
   -- ---- statements
 
@@ -181,7 +184,8 @@ module _ (s : Script) (Has : Ty → Type 0) (has : HasWritten s Has) where
     result = names.result;
   })
 
-  pub line_has : (ns ms : Names) (l : Stmt) (ts asks : List Ty) → HasScope s Has ns → HasAll Has ts → LineRule ns l ts asks ms → HasLine asks ms
+  pub line_has : (ns ms : Names) (l : Stmt) (ts asks : List Ty) → HasScope s Has ns → HasAll Has ts
+      → LineRule ns l ts asks ms → HasLine asks ms
   line_has ns ms stmt.pass ts asks names h k = (subst (HasAll Has) (sym k.0) tt, subst (HasScope s Has) (sym k.1) names)
   line_has ns ms (stmt.give p e) ts asks names h k = (return_has ns.result asks names.result k.0, subst (HasScope s Has) (sym k.1) names)
   line_has ns ms (stmt.print p es) ts asks names h k = (subst (HasAll Has) (sym k.0) (dyns_have ts), subst (HasScope s Has) (sym k.1) names)

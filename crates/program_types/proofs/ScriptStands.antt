@@ -53,8 +53,8 @@ block_in l b h = record {
   threads = λ n c. name_among (Contains l) b.threads n h.threads (contains-in n b.threads c);
 }
 
-pub script_stands : (d : Scoped) (p : CastScript) (written l : List Ty) → IsScope d.script d → HasCasts d p → AreScriptTypes d.script written
-    → IsClosedList written l → AreTypesIn l p
+pub script_stands : (d : Scoped) (p : CastScript) (written l : List Ty) → IsScope d.script d → HasCasts d p
+    → AreScriptTypes d.script written → IsClosedList written l → AreTypesIn l p
 script_stands d p written l scope h types closed =
     let has = list_has d.script written l types closed in
     let start = main_has d.script (Contains l) has h.names h.scope in

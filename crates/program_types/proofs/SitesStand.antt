@@ -21,7 +21,8 @@ use Rattle.static_types.specs.Operators.{Sort, arithmetic, comparison, equality,
 use Rattle.static_types.specs.Parts.{class_called}
 use Rattle.cast_rules.specs.declared.site.TypedSite.{TypedSite}
 use Rattle.cast_rules.specs.Elaborates.{Uses, as_it_is, with_cast, UsesEach, uses_none, uses_more, uses_of}
-use Rattle.cast_rules.specs.OwnSites.{name_site, operator_sites, written_site, call_sites, called_sites, own_sites, write_sites, line_sites, end_of}
+use Rattle.cast_rules.specs.OwnSites.{name_site, operator_sites, written_site, call_sites, called_sites, own_sites}
+use Rattle.cast_rules.specs.OwnSites.{write_sites, line_sites, end_of}
 use Rattle.cast_rules.specs.Sites.{site_from, site_unless, tested_sites, site_at_dyn, standing}
 use Rattle.class_types.proofs.OrderLaws.{In}
 use Rattle.program_types.proofs.HasWritten.{HasWritten, HasAll}
@@ -47,7 +48,8 @@ module _ (Has : Ty → Type 0) where
 
   -- ---- uses
 
-  pub use_has : (ss us : List TypedSite) (p : Place) (t u : Ty) (c d : CastExpr) → Uses ss p t c u d us → Has t → Has u → HasSites ss → HasSites us
+  pub use_has : (ss us : List TypedSite) (p : Place) (t u : Ty) (c d : CastExpr) → Uses ss p t c u d us → Has t → Has u
+      → HasSites ss → HasSites us
   use_has ss us p t u c d (as_it_is h) k g l = l
   use_has ss us p t u c d (with_cast h n e) k g l = subst HasSites (sym e) (sites_append ss (site_from p kind.Cast t u ∷ []) l ((k, g), tt))
 
@@ -64,7 +66,8 @@ module _ (Has : Ty → Type 0) where
 
   -- ---- tests of a value at its place
 
-  unless : (b : Bool) (f : TypedSite) (os : List (Option TypedSite)) → HasSite f → HasSites (standing os) → HasSites (standing (site_unless b f ∷ os))
+  unless : (b : Bool) (f : TypedSite) (os : List (Option TypedSite)) → HasSite f → HasSites (standing os)
+      → HasSites (standing (site_unless b f ∷ os))
   unless true f os h k = k
   unless false f os h k = (h, k)
 
@@ -103,7 +106,8 @@ module _ (s : Script) (Has : Ty → Type 0) (has : HasWritten s Has) where
   at_dyn k p (fun ps r ∷ ss) os h = h
   at_dyn k p (obj fs ∷ ss) os h = h
 
-  call_own : (p : Place) (es : List Expr) (ss ts : List Ty) → HasAll Has ss → HasAll Has ts → HasSites Has (standing (call_sites p es ss ts))
+  call_own : (p : Place) (es : List Expr) (ss ts : List Ty) → HasAll Has ss → HasAll Has ts
+      → HasSites Has (standing (call_sites p es ss ts))
   call_own p es [] ts h g = tt
   call_own p es (s ∷ ss) [] h g = tt
   call_own p es (s ∷ ss) (t ∷ ts) h g =

@@ -14,10 +14,13 @@ use Rattle.mono_tree.specs.ClosedList.{IsAmong, IsOfField, IsPart, IsClosed, in_
 use Rattle.mono_tree.proofs.ClosedMembers.{members_in, set_has}
 use Rattle.script_rules.specs.Definitions.{classes_of, functions_of}
 use Rattle.script_rules.specs.Scoping.{class_list}
-use Rattle.script_rules.specs.SourceParts.{Part, annotation, arguments, any_ann, param_parts, field_parts, body_parts, stmt_parts, item_parts, parts_of}
-use Rattle.script_rules.specs.Writes.{in_order, Writes, WritesAny, Declares, declares_none, declares_more, IsClassType, ParamTypes, IsFunctionType}
+use Rattle.script_rules.specs.SourceParts.{Part, annotation, arguments, any_ann, parts_of}
+use Rattle.script_rules.specs.SourceParts.{param_parts, field_parts, body_parts, stmt_parts, item_parts}
+use Rattle.script_rules.specs.Writes.{in_order, Writes, WritesAny, Declares, declares_none, declares_more}
+use Rattle.script_rules.specs.Writes.{IsClassType, ParamTypes, IsFunctionType}
 use Rattle.static_types.proofs.Writing.{one_type, one_declared, function_type_once}
-use Rattle.written_types.specs.ScriptTypes.{annotations_in, WriteEach, WriteItems, no_item, class_item, function_item, line_item, AreScriptTypes}
+use Rattle.written_types.specs.ScriptTypes.{annotations_in, WriteEach, AreScriptTypes}
+use Rattle.written_types.specs.ScriptTypes.{WriteItems, no_item, class_item, function_item, line_item}
 use Rattle.class_types.proofs.OrderLaws.{In, in-cases}
 use Rattle.program_types.proofs.HasWritten.{HasWritten, HasAll, all_left, all_right, ordered_has}
 
@@ -50,7 +53,8 @@ module _ (cs : List ClassDef) (Has : Ty → Type 0) (part : (t p : Ty) → Has t
       subst Has (one_type cs a u t writes v) (h u (inl refl))
   declared_has (declares_more w ws) h a t (inr i) v = declared_has ws (λ p k. h p (inr k)) a t i v
 
-  class_has : (d : ClassDef) (u : Ty) → IsClassType cs d u → Has u → (a : Ann) (t : Ty) → In (annotation a) (field_parts d.fields) → Writes cs a t → Has t
+  class_has : (d : ClassDef) (u : Ty) → IsClassType cs d u → Has u
+      → (a : Ann) (t : Ty) → In (annotation a) (field_parts d.fields) → Writes cs a t → Has t
   class_has d u c h a t i v =
       declared_has c.fields (λ p k. part (obj (in_order c.declared)) p (subst Has c.type h) (ordered_has p c.declared k)) a t i v
 
@@ -61,7 +65,8 @@ module _ (cs : List ClassDef) (Has : Ty → Type 0) (part : (t p : Ty) → Has t
 
   -- ---- a function
 
-  any_has : (o : Option Ann) (u : Ty) → WritesAny cs o u → Has u → (a : Ann) (t : Ty) → In (annotation a) (any_ann o) → Writes cs a t → Has t
+  any_has : (o : Option Ann) (u : Ty) → WritesAny cs o u → Has u
+      → (a : Ann) (t : Ty) → In (annotation a) (any_ann o) → Writes cs a t → Has t
   any_has None u w h a t i v = absurd i
   any_has (Some b) u w h a t (inl e) v =
       let writes : Writes cs a u = subst (λ (k : Ann). Writes cs k u) (one_annotation e) w in
@@ -77,7 +82,8 @@ module _ (cs : List ClassDef) (Has : Ty → Type 0) (part : (t p : Ty) → Has t
     | inr r ↦ params_have ps us w.1 (λ q k. h q (inr k)) a t r v
   ]
 
-  function_has : (d : FuncDef) (u : Ty) (us : List Ty) → IsFunctionType cs d u → Has u → WriteEach cs (annotations_in (body_parts d.body)) us → HasAll Has us
+  function_has : (d : FuncDef) (u : Ty) (us : List Ty) → IsFunctionType cs d u → Has u
+      → WriteEach cs (annotations_in (body_parts d.body)) us → HasAll Has us
       → (a : Ann) (t : Ty) → In (annotation a) (item_parts (item.Def d)) → Writes cs a t → Has t
   function_has d u us f h w hs a t i v =
       let whole : Has (fun f.parameters f.result) = subst Has f.type h in
@@ -94,10 +100,11 @@ module _ (cs : List ClassDef) (Has : Ty → Type 0) (part : (t p : Ty) → Has t
   annotations_have : {is : List Item} {ts : List Ty} → WriteItems cs is ts → HasAll Has ts
       → (a : Ann) (t : Ty) → In (annotation a) (parts_of is) → Writes cs a t → Has t
   annotations_have no_item h a t i v = absurd i
-  annotations_have (class_item {d = d} {is = is} {t = u} c w) h a t i v = elim (in-cases (annotation a) (field_parts d.fields) (parts_of is) i) [
-    | inl l ↦ class_has d u c h.0 a t l v
-    | inr r ↦ annotations_have w h.1 a t r v
-  ]
+  annotations_have (class_item {d = d} {is = is} {t = u} c w) h a t i v =
+      elim (in-cases (annotation a) (field_parts d.fields) (parts_of is) i) [
+        | inl l ↦ class_has d u c h.0 a t l v
+        | inr r ↦ annotations_have w h.1 a t r v
+      ]
   annotations_have (function_item {d = d} {is = is} {t = u} {ts = ts} us f b w e) h a t i v =
       let rest : HasAll Has (us ++ ts) = subst (HasAll Has) e h.1 in
       elim (in-cases (annotation a) (item_parts (item.Def d)) (parts_of is) i) [
@@ -128,7 +135,8 @@ module _ (cs : List ClassDef) (Has : Ty → Type 0) (part : (t p : Ty) → Has t
   functions_have (function_item {d = c} {t = u} us f b w e) h d t (inl q) k =
       let same : IsFunctionType cs d u = subst (λ (x : FuncDef). IsFunctionType cs x u) q f in
       subst Has (function_type_once cs d u t same k) h.0
-  functions_have (function_item {ts = ts} us f b w e) h d t (inr i) k = functions_have w (all_right Has us ts (subst (HasAll Has) e h.1)) d t i k
+  functions_have (function_item {ts = ts} us f b w e) h d t (inr i) k =
+      functions_have w (all_right Has us ts (subst (HasAll Has) e h.1)) d t i k
   functions_have (line_item {ts = ts} us b w e) h d t i k = functions_have w (all_right Has us ts (subst (HasAll Has) e h)) d t i k
 
 -- ---- the closed list
