@@ -1,5 +1,6 @@
 -- What holds of every configuration of the word machine.
-use Rattle.std.proofs.Common.{◌≡◌, ◌⊎◌, ◌≤◌, ◌<◌, inl, inr, ⊎_elim, ℕ, zero, suc, ◌+◌, Bool, true, false, ◌&&◌, List, [], ◌∷◌, ◌++◌, length, Option, Some, None, nat_eq, refl, sym, ap, ◌∙◌, subst, arith, slice_get, slice_set, is_some}
+use Rattle.std.proofs.Common.{◌≡◌, ◌⊎◌, ◌≤◌, ◌<◌, inl, inr, ⊎_elim, ℕ, zero, suc, ◌+◌, Bool, true, false, ◌&&◌, List, [], ◌∷◌, ◌++◌, length}
+use Rattle.std.proofs.Common.{Option, Some, None, nat_eq, refl, sym, ap, ◌∙◌, subst, arith, slice_get, slice_set, is_some}
 use Rattle.std.proofs.lemmas.Bool.{and_parts, and_from, false≢true}
 use Rattle.mono_list.proofs.Cases.{none_some, some_is}
 use Rattle.mono_syntax.specs.Ty.{Ty}
@@ -47,7 +48,8 @@ pub record FillOk (p : CastScript) (rs : List Ty) (t : ℕ) (h : Heap) (R : Ty) 
   pub named : keys object.cells ≡ class_names p object.class
   pub class : HasClass p object.class
   pub busy : value_of st ≡ None
-  pub typed : (g : Heap) → Extends h g → object_at g base ≡ Some (full object) → ((f : List ℕ) (c : Cell) → lookup object.cells f ≡ Some c → IsTyped p g c.value c.ty) × IsWellTypedState p rs t g R st
+  pub typed : (g : Heap) → Extends h g → object_at g base ≡ Some (full object)
+      → ((f : List ℕ) (c : Cell) → lookup object.cells f ≡ Some c → IsTyped p g c.value c.ty) × IsWellTypedState p rs t g R st
 
 pub threads_get : (qs : List Seat) (t : ℕ) (q : Seat) → slice_get qs t ≡ Some q → slice_get (threads_of qs) t ≡ Some (thread_of q)
 threads_get [] t q e = none_some _ e
@@ -107,7 +109,8 @@ pub record Keeps (t : ℕ) (h h' : Heap) : Type 0 where
 pub keeps_refl : (t : ℕ) (h : Heap) → Keeps t h h
 keeps_refl t h = record { grows = extends_refl h; hidden = λ b o e w n. e }
 
-fill_grows : (p : CastScript) (rs rs' : List Ty) (t u : ℕ) {h h' : Heap} (R : Ty) (st : State) (base left : ℕ) → MoreResults rs rs' → (u ≡ t → ⊥) → Keeps t h h' → FillOk p rs u h R st base left → FillOk p rs' u h' R st base left
+fill_grows : (p : CastScript) (rs rs' : List Ty) (t u : ℕ) {h h' : Heap} (R : Ty) (st : State) (base left : ℕ) → MoreResults rs rs'
+    → (u ≡ t → ⊥) → Keeps t h h' → FillOk p rs u h R st base left → FillOk p rs' u h' R st base left
 fill_grows p rs rs' t u R st base left more other x i = record {
   object = i.object;
   at = x.hidden base i.object i.at i.hides (λ same. other (sym i.maker ∙ same));
@@ -140,9 +143,13 @@ seen_grows d d' x (state.Failing e) left i = tt
 seen_grows d d' x (state.Finished v) left i = tt
 seen_grows d d' x state.Stopped left i = tt
 
-seat_grows : (p : CastScript) (rs rs' : List Ty) (d d' : ℕ → Option Val) (t u : ℕ) {h h' : Heap} (R : Ty) (st : State) (m : Micro) → MoreResults rs rs' → Finishes d d' → (u ≡ t → ⊥) → Keeps t h h' → SeatBy p rs d u h R st m → SeatBy p rs' d' u h' R st m
+seat_grows : (p : CastScript) (rs rs' : List Ty) (d d' : ℕ → Option Val) (t u : ℕ) {h h' : Heap} (R : Ty) (st : State) (m : Micro)
+    → MoreResults rs rs' → Finishes d d' → (u ≡ t → ⊥) → Keeps t h h' → SeatBy p rs d u h R st m → SeatBy p rs' d' u h' R st m
 seat_grows p rs rs' d d' t u R st (Filling base left) more x other k i = fill_grows p rs rs' t u R st base left more other k i
-seat_grows p rs rs' d d' t u R st (Seeing left n) more x other k i = (state_grows p rs rs' u more k.grows R st i.0, seen_grows d d' x st left i.1)
+seat_grows p rs rs' d d' t u R st (Seeing left n) more x other k i = (
+  state_grows p rs rs' u more k.grows R st i.0,
+  seen_grows d d' x st left i.1,
+)
 seat_grows p rs rs' d d' t u R st m more x other k i = state_grows p rs rs' u more k.grows R st i
 
 -- lists of seats
@@ -154,7 +161,8 @@ abbrev pub more_results : List Ty → Option Seat → List Ty
 more_results rs None = rs
 more_results rs (Some q) = rs ++ res q ∷ []
 
-set_forward : (l : List Seat) (t u : ℕ) (q r : Seat) → slice_get l u ≡ Some r → ((t ≡ u) × (slice_get (slice_set l t q) u ≡ Some q)) ⊎ (slice_get (slice_set l t q) u ≡ Some r)
+set_forward : (l : List Seat) (t u : ℕ) (q r : Seat) → slice_get l u ≡ Some r → ((t ≡ u) × (slice_get (slice_set l t q) u ≡ Some q))
+    ⊎ (slice_get (slice_set l t q) u ≡ Some r)
 set_forward [] t u q r e = none_some _ e
 set_forward (z ∷ l) zero zero q r e = inl (refl, refl)
 set_forward (z ∷ l) zero (suc u) q r e = inr e
@@ -165,7 +173,8 @@ new_forward : (l : List Seat) (m : Option Seat) (u : ℕ) (r : Seat) → slice_g
 new_forward l None u r e = e
 new_forward l (Some q) u r e = end_there l u q r e
 
-new_back : (l : List Seat) (m : Option Seat) (u : ℕ) (r : Seat) → slice_get (with_new l m) u ≡ Some r → (slice_get l u ≡ Some r) ⊎ ((u ≡ length l) × (m ≡ Some r))
+new_back : (l : List Seat) (m : Option Seat) (u : ℕ) (r : Seat) → slice_get (with_new l m) u ≡ Some r → (slice_get l u ≡ Some r)
+    ⊎ ((u ≡ length l) × (m ≡ Some r))
 new_back l None u r e = inl e
 new_back l (Some q) u r e = ⊎_elim inl (λ x. inr (x.0, ap Some x.1)) (end_cases l u q r e)
 
@@ -177,7 +186,8 @@ fin_seat (x ∷ qs) (suc u) v e = fin_seat qs u v e
 pub fin_at : (qs : List Seat) (u : ℕ) (r : Seat) → slice_get qs u ≡ Some r → fin qs u ≡ value_of r.state
 fin_at qs u r e = ap value_in (threads_get qs u r e)
 
-pub fin_grows : (qs : List Seat) (t : ℕ) (old q : Seat) (m : Option Seat) → slice_get qs t ≡ Some old → ((v : Val) → value_of old.state ≡ Some v → value_of q.state ≡ Some v) → Finishes (fin qs) (fin (with_new (slice_set qs t q) m))
+pub fin_grows : (qs : List Seat) (t : ℕ) (old q : Seat) (m : Option Seat) → slice_get qs t ≡ Some old
+    → ((v : Val) → value_of old.state ≡ Some v → value_of q.state ≡ Some v) → Finishes (fin qs) (fin (with_new (slice_set qs t q) m))
 fin_grows qs t old q m at keeps u v e =
     let x = fin_seat qs u v e in
     let l = slice_set qs t q in
@@ -204,7 +214,8 @@ abbrev pub NewState : CastScript → List Ty → ℕ → Heap → Option Seat �
 NewState p rs n h None = Unit {0}
 NewState p rs n h (Some q) = IsWellTypedState p rs n h (res q) q.state
 
-new_state : (p : CastScript) (rs : List Ty) (n : ℕ) (h : Heap) (m : Option Seat) (r : Seat) → m ≡ Some r → NewState p rs n h m → IsWellTypedState p rs n h (res r) r.state
+new_state : (p : CastScript) (rs : List Ty) (n : ℕ) (h : Heap) (m : Option Seat) (r : Seat) → m ≡ Some r → NewState p rs n h m
+    → IsWellTypedState p rs n h (res r) r.state
 new_state p rs n h None r e i = none_some _ e
 new_state p rs n h (Some q) r e i = subst (λ (x : Seat). IsWellTypedState p rs n h (res x) x.state) (some_is e) i
 
@@ -219,13 +230,15 @@ abbrev pub NewOk : CastScript → List Ty → (ℕ → Option Val) → ℕ → H
 NewOk p rs d n h None = Unit {0}
 NewOk p rs d n h (Some q) = SeatOk p rs d n h q
 
-new_ok : (p : CastScript) (rs : List Ty) (d : ℕ → Option Val) (n : ℕ) (h : Heap) (m : Option Seat) (r : Seat) → m ≡ Some r → NewOk p rs d n h m → SeatOk p rs d n h r
+new_ok : (p : CastScript) (rs : List Ty) (d : ℕ → Option Val) (n : ℕ) (h : Heap) (m : Option Seat) (r : Seat) → m ≡ Some r
+    → NewOk p rs d n h m → SeatOk p rs d n h r
 new_ok p rs d n h None r e i = none_some _ e
 new_ok p rs d n h (Some q) r e i = subst (λ x. SeatOk p rs d n h x) (some_is e) i
 
 -- ---- the result words
 
-fin_set : (qs : List Seat) (t u : ℕ) (old q : Seat) → slice_get qs t ≡ Some old → value_of q.state ≡ value_of old.state → fin (slice_set qs t q) u ≡ fin qs u
+fin_set : (qs : List Seat) (t u : ℕ) (old q : Seat) → slice_get qs t ≡ Some old → value_of q.state ≡ value_of old.state
+    → fin (slice_set qs t q) u ≡ fin qs u
 fin_set [] t u old q at e = none_some _ at
 fin_set (x ∷ qs) zero zero old q at e = e ∙ sym (ap (λ (y : Seat). value_of y.state) (some_is at))
 fin_set (x ∷ qs) zero (suc u) old q at e = refl
@@ -252,14 +265,17 @@ length_results [] t o = refl
 length_results (x ∷ rs) zero o = refl
 length_results (x ∷ rs) (suc t) o = ap suc (length_results rs t o)
 
-pub counts_keep : (w : Words) (qs : List Seat) (t : ℕ) (old q : Seat) → slice_get qs t ≡ Some old → value_of q.state ≡ value_of old.state → CountsOk w qs → CountsOk w (slice_set qs t q)
+pub counts_keep : (w : Words) (qs : List Seat) (t : ℕ) (old q : Seat) → slice_get qs t ≡ Some old → value_of q.state ≡ value_of old.state
+    → CountsOk w qs → CountsOk w (slice_set qs t q)
 counts_keep w qs t old q at e c = record {
   room = c.room;
   few = subst (λ n. n ≤ 256) (sym (length_set qs t q)) c.few;
   results = λ u. c.results u ∙ sym (fin_set qs t u old q at e);
 }
 
-pub counts_begin : (w : Words) (qs : List Seat) (t : ℕ) (old q new : Seat) → slice_get qs t ≡ Some old → value_of q.state ≡ value_of old.state → value_of new.state ≡ None → length qs < 256 → CountsOk w qs → CountsOk w (slice_set qs t q ++ new ∷ [])
+pub counts_begin : (w : Words) (qs : List Seat) (t : ℕ) (old q new : Seat) → slice_get qs t ≡ Some old
+    → value_of q.state ≡ value_of old.state → value_of new.state ≡ None → length qs < 256 → CountsOk w qs
+    → CountsOk w (slice_set qs t q ++ new ∷ [])
 counts_begin w qs t old q new at e busy few c = record {
   room = c.room;
   few = subst (λ n. n ≤ 256) (sym (length_end (slice_set qs t q) new ∙ ap (λ n. n + 1) (length_set qs t q))) (omega arith);
@@ -267,7 +283,9 @@ counts_begin w qs t old q new at e busy few c = record {
 }
 
 -- a result is stored
-finish_results : (rs : List (Option Val)) (qs : List Seat) (t : ℕ) (old q : Seat) (v : Val) → slice_get qs t ≡ Some old → value_of q.state ≡ Some v → length qs ≤ length rs → ((u : ℕ) → result_at rs u ≡ fin qs u) → (u : ℕ) → result_at (slice_set rs t (Some v)) u ≡ fin (slice_set qs t q) u
+finish_results : (rs : List (Option Val)) (qs : List Seat) (t : ℕ) (old q : Seat) (v : Val) → slice_get qs t ≡ Some old
+    → value_of q.state ≡ Some v → length qs ≤ length rs → ((u : ℕ) → result_at rs u ≡ fin qs u) → (u : ℕ)
+    → result_at (slice_set rs t (Some v)) u ≡ fin (slice_set qs t q) u
 finish_results rs [] t old q v at e few i u = none_some _ at
 finish_results [] (x ∷ qs) t old q v at e few i u = absurd (omega arith)
 finish_results (r ∷ rs) (x ∷ qs) zero old q v at e few i zero = sym e
@@ -275,7 +293,8 @@ finish_results (r ∷ rs) (x ∷ qs) zero old q v at e few i (suc u) = i (suc u)
 finish_results (r ∷ rs) (x ∷ qs) (suc t) old q v at e few i zero = i zero
 finish_results (r ∷ rs) (x ∷ qs) (suc t) old q v at e few i (suc u) = finish_results rs qs t old q v at e (omega arith) (λ j. i (suc j)) u
 
-pub counts_finish : (w : Words) (qs : List Seat) (t : ℕ) (old q : Seat) (v : Val) → slice_get qs t ≡ Some old → value_of q.state ≡ Some v → CountsOk w qs → CountsOk (record w { results = slice_set w.results t (Some v) }) (slice_set qs t q)
+pub counts_finish : (w : Words) (qs : List Seat) (t : ℕ) (old q : Seat) (v : Val) → slice_get qs t ≡ Some old → value_of q.state ≡ Some v
+    → CountsOk w qs → CountsOk (record w { results = slice_set w.results t (Some v) }) (slice_set qs t q)
 counts_finish w qs t old q v at e c = record {
   room = length_results w.results t (Some v) ∙ c.room;
   few = subst (λ n. n ≤ 256) (sym (length_set qs t q)) c.few;
@@ -283,23 +302,36 @@ counts_finish w qs t old q v at e c = record {
 }
 
 -- one seat acts, and maybe starts another
-pub core_ok : (p : CastScript) (rs : List Ty) (k : Core) → CoreOk p rs k → (t : ℕ) (old : Seat) → slice_get k.seats t ≡ Some old → (w : Words) → Keeps t (k.words).heap w.heap → HeapOk p w.heap → (q : Seat) (m : Option Seat) → q.asked ≡ old.asked → ((v : Val) → value_of old.state ≡ Some v → value_of q.state ≡ Some v) → SeatOk p (more_results rs m) (fin (with_new (slice_set k.seats t q) m)) t w.heap q → NewOk p (more_results rs m) (fin (with_new (slice_set k.seats t q) m)) (length k.seats) w.heap m → ShownOk p (more_results rs m) t (length k.seats) (reveal (k.words).heap) (reveal w.heap) q m → CountsOk w (with_new (slice_set k.seats t q) m) → CoreOk p (more_results rs m) (record { words = w; seats = with_new (slice_set k.seats t q) m })
+pub core_ok : (p : CastScript) (rs : List Ty) (k : Core) → CoreOk p rs k → (t : ℕ) (old : Seat) → slice_get k.seats t ≡ Some old
+    → (w : Words) → Keeps t (k.words).heap w.heap → HeapOk p w.heap → (q : Seat) (m : Option Seat) → q.asked ≡ old.asked
+    → ((v : Val) → value_of old.state ≡ Some v → value_of q.state ≡ Some v)
+    → SeatOk p (more_results rs m) (fin (with_new (slice_set k.seats t q) m)) t w.heap q
+    → NewOk p (more_results rs m) (fin (with_new (slice_set k.seats t q) m)) (length k.seats) w.heap m
+    → ShownOk p (more_results rs m) t (length k.seats) (reveal (k.words).heap) (reveal w.heap) q m
+    → CountsOk w (with_new (slice_set k.seats t q) m)
+    → CoreOk p (more_results rs m) (record { words = w; seats = with_new (slice_set k.seats t q) m })
 core_ok p rs k ok t old at w x hok q m asks keeps qok nok sok cok = record {
   counts = cok;
   shown = sok.heap;
   states = λ u r e. ⊎_elim
       (λ stays. ⊎_elim
-      (λ here. subst (λ j. IsWellTypedState p rs' j (reveal w.heap) (res r) r.state) here.0 (subst (λ (z : Seat). IsWellTypedState p rs' t (reveal w.heap) (res z) z.state) here.1 sok.state))
+      (λ here. subst (λ j. IsWellTypedState p rs' j (reveal w.heap) (res r) r.state) here.0
+      (subst (λ (z : Seat). IsWellTypedState p rs' t (reveal w.heap) (res z) z.state) here.1 sok.state))
       (λ other. state_grows p rs rs' u (more_grows rs m) sok.grows (res r) r.state (ok.states u r other))
       (set_cases k.seats t u q r stays))
-      (λ fresh. subst (λ j. IsWellTypedState p rs' j (reveal w.heap) (res r) r.state) (sym (fresh.0 ∙ length-slice_set k.seats t q)) (new_state p rs' (length k.seats) (reveal w.heap) m r fresh.1 sok.begun))
+      (λ fresh. subst (λ j. IsWellTypedState p rs' j (reveal w.heap) (res r) r.state) (sym (fresh.0 ∙ length-slice_set k.seats t q))
+      (new_state p rs' (length k.seats) (reveal w.heap) m r fresh.1 sok.begun))
       (new_back (slice_set k.seats t q) m u r e);
   heap = hok;
   seats = λ u r e. ⊎_elim
       (λ stays. go u r stays)
-      (λ fresh. subst (λ j. SeatOk p rs' d' j w.heap r) (sym (fresh.0 ∙ length-slice_set k.seats t q)) (new_ok p rs' d' (length k.seats) w.heap m r fresh.1 nok))
+      (λ fresh. subst (λ j. SeatOk p rs' d' j w.heap r) (sym (fresh.0 ∙ length-slice_set k.seats t q))
+      (new_ok p rs' d' (length k.seats) w.heap m r fresh.1 nok))
       (new_back (slice_set k.seats t q) m u r e);
-  same = ap results_of (threads_new (slice_set k.seats t q) m) ∙ results_begun (threads_of (slice_set k.seats t q)) m ∙ ap (λ l. more_results l m) (ap results_of (threads_set k.seats t q) ∙ results_set (threads_of k.seats) t (thread_of old) (thread_of q) (threads_get k.seats t old at) (ap (λ a. result_type (record { asked = a; state = state.Stopped; steps = 0 })) asks) ∙ ok.same);
+  same = ap results_of (threads_new (slice_set k.seats t q) m) ∙ results_begun (threads_of (slice_set k.seats t q)) m
+      ∙ ap (λ l. more_results l m) (ap results_of (threads_set k.seats t q) ∙ results_set (threads_of k.seats) t (thread_of old)
+      (thread_of q) (threads_get k.seats t old at) (ap (λ a. result_type (record { asked = a; state = state.Stopped; steps = 0 })) asks)
+      ∙ ok.same);
 }
   where
     rs' : List Ty
@@ -316,15 +348,20 @@ core_ok p rs k ok t old at w x hok q m asks keeps qok nok sok cok = record {
     more_grows l None u V e = e
     more_grows l (Some n) u V e = end_there l u (res n) V e
 
-    go : (u : ℕ) (r : Seat) → slice_get (slice_set k.seats t q) u ≡ Some r → SeatOk p (more_results rs m) (fin (with_new (slice_set k.seats t q) m)) u w.heap r
+    go : (u : ℕ) (r : Seat) → slice_get (slice_set k.seats t q) u ≡ Some r
+        → SeatOk p (more_results rs m) (fin (with_new (slice_set k.seats t q) m)) u w.heap r
     go u r e = ⊎_elim
         (λ here. subst (λ j. SeatOk p rs' d' j w.heap r) here.0 (subst (λ j. SeatOk p rs' d' t w.heap j) here.1 qok))
         (λ old. other old (nat_eq u t) refl)
         (set_cases k.seats t u q r e)
       where
-        other : slice_get k.seats u ≡ Some r → (b : Bool) → nat_eq u t ≡ b → SeatOk p (more_results rs m) (fin (with_new (slice_set k.seats t q) m)) u w.heap r
-        other i false y = seat_grows p rs rs' (fin k.seats) d' t u (res r) r.state r.micro (more_grows rs m) (fin_grows k.seats t old q m at keeps) (λ same. false≢true (sym y ∙ subst (λ j. nat_eq u j ≡ true) same (nat_eq-refl u))) x (ok.seats u r i)
+        other : slice_get k.seats u ≡ Some r → (b : Bool) → nat_eq u t ≡ b
+            → SeatOk p (more_results rs m) (fin (with_new (slice_set k.seats t q) m)) u w.heap r
+        other i false y = seat_grows p rs rs' (fin k.seats) d' t u (res r) r.state r.micro (more_grows rs m)
+            (fin_grows k.seats t old q m at keeps) (λ same. false≢true (sym y ∙ subst (λ j. nat_eq u j ≡ true) same (nat_eq-refl u))) x
+            (ok.seats u r i)
         other i true y =
             let same = nat_eq-same u t y in
-            let is : q ≡ r = some_is (sym (set_here k.seats t q old at) ∙ subst (λ j. slice_get (slice_set k.seats t q) j ≡ Some r) same e) in
+            let is : q ≡ r = some_is (sym (set_here k.seats t q old at)
+            ∙ subst (λ j. slice_get (slice_set k.seats t q) j ≡ Some r) same e) in
             subst (λ j. SeatOk p rs' d' j w.heap r) (sym same) (subst (λ j. SeatOk p rs' d' t w.heap j) is qok)

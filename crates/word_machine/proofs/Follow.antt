@@ -1,5 +1,6 @@
 -- Every list of events.
-use Rattle.std.proofs.Common.{◌≡◌, arith, is_some, ℕ, zero, suc, Bool, true, false, List, [], ◌∷◌, ◌++◌, Option, Some, None, if◌then◌else◌, refl, sym, ap, ◌∙◌, subst, slice_get, unwrap_or}
+use Rattle.std.proofs.Common.{◌≡◌, arith, is_some, ℕ, zero, suc, Bool, true, false, List, [], ◌∷◌, ◌++◌, Option, Some, None, if◌then◌else◌}
+use Rattle.std.proofs.Common.{refl, sym, ap, ◌∙◌, subst, slice_get, unwrap_or}
 use Rattle.std.proofs.lemmas.Bool.{false≢true}
 use Rattle.mono_list.proofs.Cases.{none_some, some_is}
 use Rattle.mono_syntax.specs.Ty.{Ty, dyn}
@@ -22,8 +23,10 @@ use Rattle.cast_machine.specs.Typing.{IsWellTypedState, around, result_type}
 use Rattle.cast_machine.specs.Step.{Configuration, main_frame, picked, run_from, run_of, start_of}
 use Rattle.cast_machine.proofs.Obligations.{owns-all}
 use Rattle.cast_machine.proofs.Runs.{start_ok}
-use Rattle.word_machine.specs.Words.{NBegins, Seeing, tick_steps, result_at, Words, Micro, Quick, Filling, Seat, Next, NLocal, NRest, NWants, next_action, resume, Core, acted, tick_seat, tick, thread_of, threads_of, reveal, stands}
-use Rattle.word_machine.specs.Follows.{Matches, tick_picks, event_picks, empty_results, is_local, local_seat, event, is_filling, Follows, OnlyOf, Trace, core_start, WordsFollow}
+use Rattle.word_machine.specs.Words.{NBegins, Seeing, tick_steps, result_at, Words, Micro, Quick, Filling, Seat, Next, NLocal, NRest}
+use Rattle.word_machine.specs.Words.{NWants, next_action, resume, Core, acted, tick_seat, tick, thread_of, threads_of, reveal, stands}
+use Rattle.word_machine.specs.Follows.{Matches, tick_picks, event_picks, empty_results, is_local, local_seat, event, is_filling, Follows}
+use Rattle.word_machine.specs.Follows.{OnlyOf, Trace, core_start, WordsFollow}
 use Rattle.word_machine.proofs.CoreOk.{res, fin, extends_trans, SeatBy, CoreOk}
 use Rattle.word_machine.proofs.Leaf.{Good}
 use Rattle.word_machine.proofs.Tick.{tick_ok}
@@ -44,7 +47,8 @@ pub record Ran (p : CastScript) (s : Settings) (k : Core) (t : ℕ) (more : List
 abbrev picks_by : ℕ → Option End → Bool → List ℕ
 picks_by t e b = if is_some e then [] else (if b then t ∷ [] else [])
 
-ran_one : (p : CastScript) (s : Settings) (rs : List Ty) (k : Core) (t : ℕ) (b : Bool) (k' : Core) → Good p s rs k t b k' → Ran p s k t (picks_by t (k.words).end b) k'
+ran_one : (p : CastScript) (s : Settings) (rs : List Ty) (k : Core) (t : ℕ) (b : Bool) (k' : Core) → Good p s rs k t b k'
+    → Ran p s k t (picks_by t (k.words).end b) k'
 ran_one p s rs k t b k' g = record {
   results = g.results;
   ok = g.ok;
@@ -67,7 +71,8 @@ only_more : (t : ℕ) (xs ys : List ℕ) → OnlyOf t xs → OnlyOf t ys → Onl
 only_more t [] ys i j = j
 only_more t (x ∷ xs) ys i j = (i.0, only_more t xs ys i.1 j)
 
-ran_two : (p : CastScript) (s : Settings) (k : Core) (t : ℕ) (k' k'' : Core) (xs ys : List ℕ) → (k'.words).end ≡ (k.words).end → Ran p s k t xs k' → Ran p s k' t ys k'' → Ran p s k t (xs ++ ys) k''
+ran_two : (p : CastScript) (s : Settings) (k : Core) (t : ℕ) (k' k'' : Core) (xs ys : List ℕ) → (k'.words).end ≡ (k.words).end
+    → Ran p s k t xs k' → Ran p s k' t ys k'' → Ran p s k t (xs ++ ys) k''
 ran_two p s k t k' k'' xs ys same a b = record {
   results = b.results;
   ok = b.ok;
@@ -81,17 +86,20 @@ ran_two p s k t k' k'' xs ys same a b = record {
 }
 
 -- a local step leaves the words
-local_words : (p : CastScript) (s : Settings) (k : Core) (t : ℕ) (q : Seat) (n : Next) → is_local n ≡ true → (acted s k t (resume p s q) n).words ≡ k.words
+local_words : (p : CastScript) (s : Settings) (k : Core) (t : ℕ) (q : Seat) (n : Next) → is_local n ≡ true
+    → (acted s k t (resume p s q) n).words ≡ k.words
 local_words p s k t q (NLocal r) e = refl
 local_words p s k t q NRest e = refl
 local_words p s k t q (NWants a) e = absurd (false≢true e)
 local_words p s k t q (NBegins c j m args new) e = absurd (false≢true e)
 
-local_tick : (p : CastScript) (s : Settings) (k : Core) (t : ℕ) (o : Option Seat) → local_seat p s t o ≡ true → (tick_seat p s k t o).words ≡ k.words
+local_tick : (p : CastScript) (s : Settings) (k : Core) (t : ℕ) (o : Option Seat) → local_seat p s t o ≡ true
+    → (tick_seat p s k t o).words ≡ k.words
 local_tick p s k t None e = refl
 local_tick p s k t (Some q) e = local_words p s k t q (next_action p s t q) e
 
-threads_back : (qs : List Seat) (t : ℕ) (th : Thread) → slice_get (threads_of qs) t ≡ Some th → (q : Seat) × (thread_of q ≡ th) × (slice_get qs t ≡ Some q)
+threads_back : (qs : List Seat) (t : ℕ) (th : Thread) → slice_get (threads_of qs) t ≡ Some th → (q : Seat) × (thread_of q ≡ th)
+    × (slice_get qs t ≡ Some q)
 threads_back [] t th e = none_some _ e
 threads_back (q ∷ qs) zero th e = (q, some_is e, refl)
 threads_back (q ∷ qs) (suc t) th e = threads_back qs t th e
@@ -104,29 +112,39 @@ module _ (p : CastScript) (pok : IsTypedProgram p) (s : Settings) where
   event_ok zero rs k ok t = ran_tick rs k ok t
   event_ok (suc n) rs k ok t = go (local_seat p s t (slice_get k.seats t)) refl (λ rs' ok'. event_ok n rs' (tick p s k t) ok' t)
     where
-      go : (b : Bool) → local_seat p s t (slice_get k.seats t) ≡ b → ((rs' : List Ty) → CoreOk p rs' (tick p s k t) → Ran p s (tick p s k t) t (event_picks p s n (tick p s k t) t) (event p s n (tick p s k t) t)) →
-          Ran p s k t (if b then tick_picks p s k t ++ event_picks p s n (tick p s k t) t else tick_picks p s k t) (if b then event p s n (tick p s k t) t else tick p s k t)
+      go : (b : Bool) → local_seat p s t (slice_get k.seats t) ≡ b
+          → ((rs' : List Ty) → CoreOk p rs' (tick p s k t)
+          → Ran p s (tick p s k t) t (event_picks p s n (tick p s k t) t) (event p s n (tick p s k t) t)) →
+          Ran p s k t (if b then tick_picks p s k t ++ event_picks p s n (tick p s k t) t else tick_picks p s k t)
+          (if b then event p s n (tick p s k t) t else tick p s k t)
       go false e next = ran_tick rs k ok t
       go true e next =
           let one = ran_tick rs k ok t in
-          ran_two p s k t (tick p s k t) (event p s n (tick p s k t) t) (tick_picks p s k t) (event_picks p s n (tick p s k t) t) (ap (λ (w : Words). w.end) (local_tick p s k t (slice_get k.seats t) e)) one (next one.results one.ok)
+          ran_two p s k t (tick p s k t) (event p s n (tick p s k t) t) (tick_picks p s k t) (event_picks p s n (tick p s k t) t)
+          (ap (λ (w : Words). w.end) (local_tick p s k t (slice_get k.seats t) e)) one (next one.results one.ok)
 
   -- a ready pair on top
-  plain : (rs : List Ty) (d : ℕ → Option Val) (t : ℕ) (h : Heap) (R : Ty) (st : State) (m : Micro) → is_filling m ≡ false → SeatBy p rs d t h R st m → IsWellTypedState p rs t h R st
+  plain : (rs : List Ty) (d : ℕ → Option Val) (t : ℕ) (h : Heap) (R : Ty) (st : State) (m : Micro) → is_filling m ≡ false
+      → SeatBy p rs d t h R st m → IsWellTypedState p rs t h R st
   plain rs d t h R st (Filling b left) e i = absurd (false≢true (sym e))
   plain rs d t h R st (Seeing left n) e i = i.0
   plain rs d t h R st m e i = i
 
-  ready_pair : (rs : List Ty) (k : Core) → CoreOk p rs k → (t : ℕ) (q : Seat) (f : Frame) (below : List Frame) (c a : ℕ) (x : List ℕ) (to : Ty) (r : Ready) (rest : List Work) → slice_get k.seats t ≡ Some q → is_filling q.micro ≡ false → q.state ≡ state.Running f below → f.work ≡ work.Obligation c a x to (Some r) ∷ rest → HasType (k.words).heap r.value r.ty
+  ready_pair : (rs : List Ty) (k : Core) → CoreOk p rs k → (t : ℕ) (q : Seat) (f : Frame) (below : List Frame) (c a : ℕ) (x : List ℕ)
+      (to : Ty) (r : Ready) (rest : List Work) → slice_get k.seats t ≡ Some q → is_filling q.micro ≡ false
+      → q.state ≡ state.Running f below → f.work ≡ work.Obligation c a x to (Some r) ∷ rest → HasType (k.words).heap r.value r.ty
   ready_pair rs k ok t q f below c a x to r rest at e st w =
-      let i = subst (λ z. IsWellTypedState p rs t (k.words).heap (res q) z) st (plain rs (fin k.seats) t (k.words).heap (res q) q.state q.micro e (ok.seats t q at)) in
+      let i = subst (λ z. IsWellTypedState p rs t (k.words).heap (res q) z) st
+      (plain rs (fin k.seats) t (k.words).heap (res q) q.state q.micro e (ok.seats t q at)) in
       let top = subst (λ z. IsWellTypedTop p (around (i.0).scope f.asked rs t) (k.words).heap [] z f.values (i.0).types) w (i.0).work in
       (owns-all p (k.words).heap r.value r.ty top.1).1
 
   abbrev pub Now : Core → List ℕ → Type 0
-  Now k picks = ((k.words).end ≡ None → run_of p s picks ≡ stands s k) × ((run_of p s picks).lines ≡ (k.words).lines) × ((run_of p s picks).end ≡ (k.words).end)
+  Now k picks = ((k.words).end ≡ None → run_of p s picks ≡ stands s k) × ((run_of p s picks).lines ≡ (k.words).lines)
+      × ((run_of p s picks).end ≡ (k.words).end)
 
-  pub now_more : (k : Core) (picks : List ℕ) (t : ℕ) (more : List ℕ) (k' : Core) → Now k picks → (r : Ran p s k t more k') → Now k' (picks ++ more)
+  pub now_more : (k : Core) (picks : List ℕ) (t : ℕ) (more : List ℕ) (k' : Core) → Now k picks → (r : Ran p s k t more k')
+      → Now k' (picks ++ more)
   now_more k picks t more k' i r = go (k.words).end refl
     where
       all : run_of p s (picks ++ more) ≡ run_from p (run_of p s picks) more
@@ -153,19 +171,29 @@ module _ (p : CastScript) (pok : IsTypedProgram p) (s : Settings) where
     results = (ok.counts).results;
     heap = (ok.shown).letter;
     own = (ok.shown).own;
-    threads = λ t th at. let b = threads_back k.seats t th at in subst (λ l. IsWellTypedState p l t (reveal (k.words).heap) (result_type th) th.state) (sym ok.same) (subst (λ (x : Thread). IsWellTypedState p rs t (reveal (k.words).heap) (result_type x) x.state) b.1 (ok.states t b.0 b.2));
+    threads = λ t th at. let b = threads_back k.seats t th at in subst
+        (λ l. IsWellTypedState p l t (reveal (k.words).heap) (result_type th) th.state) (sym ok.same)
+        (subst (λ (x : Thread). IsWellTypedState p rs t (reveal (k.words).heap) (result_type x) x.state) b.1 (ok.states t b.0 b.2));
     typed = (ok.heap).letter.typed;
     ready = ready_pair rs k ok;
   }
 
-  pub trace : (n : ℕ) (ts : List ℕ) (rs : List Ty) (k : Core) → CoreOk p rs k → (picks : List ℕ) → ((k.words).end ≡ None → run_of p s picks ≡ stands s k) × ((run_of p s picks).lines ≡ (k.words).lines) × ((run_of p s picks).end ≡ (k.words).end) → Trace p s n ts k picks
+  pub trace : (n : ℕ) (ts : List ℕ) (rs : List Ty) (k : Core) → CoreOk p rs k → (picks : List ℕ)
+      → ((k.words).end ≡ None → run_of p s picks ≡ stands s k) × ((run_of p s picks).lines ≡ (k.words).lines)
+      × ((run_of p s picks).end ≡ (k.words).end) → Trace p s n ts k picks
   trace n [] rs k ok picks i = follows rs k ok picks i
   trace n (t ∷ ts) rs k ok picks i =
-      let r = event_ok n rs k ok t in
-      (follows rs k ok picks i, r.grows, r.only, trace n ts r.results (event p s n k t) r.ok (picks ++ event_picks p s n k t) (now_more k picks t (event_picks p s n k t) (event p s n k t) i r))
+      let r = event_ok n rs k ok t in (
+        follows rs k ok picks i,
+        r.grows,
+        r.only,
+        trace n ts r.results (event p s n k t) r.ok (picks ++ event_picks p s n k t)
+            (now_more k picks t (event_picks p s n k t) (event p s n k t) i r),
+      )
 
   main_typed : (t : ℕ) (q : Seat) → slice_get (core_start p).seats t ≡ Some q → IsWellTypedState p (dyn ∷ []) t [] (res q) q.state
-  main_typed zero q e = subst (λ (x : Seat). IsWellTypedState p (dyn ∷ []) 0 [] (res x) x.state) (some_is e) ((start_ok p pok s).threads 0 (record { asked = None; state = state.Running (main_frame p) []; steps = 0 }) refl)
+  main_typed zero q e = subst (λ (x : Seat). IsWellTypedState p (dyn ∷ []) 0 [] (res x) x.state) (some_is e)
+      ((start_ok p pok s).threads 0 (record { asked = None; state = state.Running (main_frame p) []; steps = 0 }) refl)
   main_typed (suc t) q e = none_some _ e
 
   main_quick : (t : ℕ) (q : Seat) → slice_get (core_start p).seats t ≡ Some q → q.micro ≡ Quick
@@ -187,7 +215,8 @@ module _ (p : CastScript) (pok : IsTypedProgram p) (s : Settings) where
   pub start_core : CoreOk p (dyn ∷ []) (core_start p)
   start_core = record {
     heap = record { letter = (start_ok p pok s).heap; own = (start_ok p pok s).own };
-    seats = λ t q e. subst (λ m. SeatBy p (dyn ∷ []) (fin (core_start p).seats) t [] (res q) q.state m) (sym (main_quick t q e)) (main_typed t q e);
+    seats = λ t q e. subst (λ m. SeatBy p (dyn ∷ []) (fin (core_start p).seats) t [] (res q) q.state m) (sym (main_quick t q e))
+        (main_typed t q e);
     same = refl;
     shown = record { letter = (start_ok p pok s).heap; own = (start_ok p pok s).own };
     states = main_typed;

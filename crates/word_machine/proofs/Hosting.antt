@@ -1,5 +1,6 @@
 -- Hosts, start words and claims stand for the word machine by trees.
-use Rattle.std.proofs.Common.{◌≡◌, ⊎_elim, ◌<◌, ◌≤◌, ℕ, zero, suc, ◌+◌, Bool, true, false, List, [], ◌∷◌, ◌++◌, length, Option, Some, None, is_some, nat_eq, nat_le, nat_lt, if◌then◌else◌, refl, sym, ap, ◌∙◌, subst, arith, slice_get, slice_set}
+use Rattle.std.proofs.Common.{◌≡◌, ⊎_elim, ◌<◌, ◌≤◌, ℕ, zero, suc, ◌+◌, Bool, true, false, List, [], ◌∷◌, ◌++◌, length, Option, Some, None}
+use Rattle.std.proofs.Common.{is_some, nat_eq, nat_le, nat_lt, if◌then◌else◌, refl, sym, ap, ◌∙◌, subst, arith, slice_get, slice_set}
 use Rattle.std.proofs.lemmas.Bool.{and_parts, false≢true, leb-false}
 use Rattle.std.proofs.lemmas.Option.{slice_get_within}
 use Rattle.mono_list.proofs.Cases.{none_some, some_is}
@@ -13,10 +14,14 @@ use Rattle.cast_machine.specs.Cells.{same_type}
 use Rattle.cast_machine.proofs.Heap.{nat_eq-same, nat_eq-refl, on_test}
 use Rattle.cast_machine.proofs.Obligations.{same_type-eq}
 use Rattle.cast_machine.proofs.ThreadLists.{set_cases, set_here, end_cases, length-slice_set}
-use Rattle.word_machine.specs.Words.{Words, Answer, Full, Counts, Drawn, Seat, Next, NLocal, NRest, NWants, NBegins, apply, next_action, resume, fresh_seat, Core, acted, answered, tick, tick_seat, tick_steps}
+use Rattle.word_machine.specs.Words.{Words, Answer, Full, Counts, Drawn, Seat, Next, NLocal, NRest, NWants, NBegins, apply, next_action}
+use Rattle.word_machine.specs.Words.{resume, fresh_seat, Core, acted, answered, tick, tick_seat, tick_steps}
 use Rattle.word_machine.specs.Follows.{Follows, OnlyOf, tick_picks, core_start}
 use Rattle.word_machine.specs.Hosts as H
-use Rattle.word_machine.specs.Hosts.{Header, HEmpty, HFunc, HClaimed, Slot, same_header, Host, Idle, Claims, Loads, Runs, Starts, Refused, Hosts, put, arity, main_seat, first_seat, loading, claimed, Event, Acts, BeginsMain, Begins, host_ticks, event_ticks, happens, after_ticks, hosts_start, Begun, HostsFollow, HostsMore, HostsRight, Known, ByStarter, ByWords, ByClaimer, IsReady, IsStarted, IsClaimed, IsKnown, Knows, StandsFor}
+use Rattle.word_machine.specs.Hosts.{Header, HEmpty, HFunc, HClaimed, Slot, same_header, Host, Idle, Claims, Loads, Runs, Starts, Refused}
+use Rattle.word_machine.specs.Hosts.{Hosts, put, arity, main_seat, first_seat, loading, claimed, Event, Acts, BeginsMain, Begins}
+use Rattle.word_machine.specs.Hosts.{host_ticks, event_ticks, happens, after_ticks, hosts_start, Begun, HostsFollow, HostsMore, HostsRight}
+use Rattle.word_machine.specs.Hosts.{Known, ByStarter, ByWords, ByClaimer, IsReady, IsStarted, IsClaimed, IsKnown, Knows, StandsFor}
 use Rattle.cast_machine.specs.HeapTyping.{Extends}
 use Rattle.cast_machine.proofs.Grows.{extends_refl}
 use Rattle.word_machine.proofs.CoreOk.{CoreOk}
@@ -57,7 +62,8 @@ zeros = record { header = HEmpty; args = [] }
 
 -- ---- one host changes, and what is known of one thread
 
-record Changes (p : CastScript) (k : Hosts) (c : Core) (st : StandsFor p k c) (h v : ℕ) (x : Host) (kn : Known) (k' : Hosts) (c' : Core) : Type 0 where
+record Changes (p : CastScript) (k : Hosts) (c : Core) (st : StandsFor p k c) (h v : ℕ) (x : Host) (kn : Known) (k' : Hosts)
+    (c' : Core) : Type 0 where
   words : k'.words ≡ c'.words
   made : k'.made ≡ length c'.seats
   longer : length c.seats ≤ length c'.seats
@@ -72,7 +78,8 @@ record Changes (p : CastScript) (k : Hosts) (c : Core) (st : StandsFor p k c) (h
   mine : v < length c.seats → (g : ℕ) → owner (st.known v) ≡ Some g → h ≡ g
   unmade : (u : ℕ) → length c'.seats < u + 1 → k'.slots u ≡ zeros
 
-module _ (p : CastScript) (k : Hosts) (c : Core) (st : StandsFor p k c) (h v : ℕ) (x : Host) (kn : Known) (k' : Hosts) (c' : Core) (ch : Changes p k c st h v x kn k' c') where
+module _ (p : CastScript) (k : Hosts) (c : Core) (st : StandsFor p k c) (h v : ℕ) (x : Host) (kn : Known) (k' : Hosts) (c' : Core)
+    (ch : Changes p k c st h v x kn k' c') where
   abbrev known' : ℕ → Known
   known' = put st.known v kn
 
@@ -84,26 +91,37 @@ module _ (p : CastScript) (k : Hosts) (c : Core) (st : StandsFor p k c) (h v : �
     same_head : (k.slots u).header ≡ (k'.slots u).header
     same_head = ap (λ (l : Slot). l.header) (sym (ch.slots u d))
 
-    by_host : (F : List Val → Host → Type 0) → ((args : List Val) → F args (k.hosts h) → F args x) → (g : ℕ) → F (k.slots u).args (k.hosts g) → F (k'.slots u).args (k'.hosts g)
+    by_host : (F : List Val → Host → Type 0) → ((args : List Val) → F args (k.hosts h) → F args x) → (g : ℕ)
+        → F (k.slots u).args (k.hosts g) → F (k'.slots u).args (k'.hosts g)
     by_host F move g i = subst (λ l. F l (k'.hosts g)) same_args (go (nat_eq h g) refl)
       where
         go : (b : Bool) → nat_eq h g ≡ b → F (k.slots u).args (k'.hosts g)
         go true e =
             let same = nat_eq-same h g e in
-            subst (λ j. F (k.slots u).args (k'.hosts j)) same (subst (λ y. F (k.slots u).args y) (sym ch.here) (move (k.slots u).args (subst (λ j. F (k.slots u).args (k.hosts j)) (sym same) i)))
+            subst (λ j. F (k.slots u).args (k'.hosts j)) same
+            (subst (λ y. F (k.slots u).args y) (sym ch.here)
+            (move (k.slots u).args (subst (λ j. F (k.slots u).args (k.hosts j)) (sym same) i)))
         go false e = subst (λ y. F (k.slots u).args y) (sym (ch.others g e)) i
 
     move_known : (n : Known) → IsKnown p k u q n → IsKnown p k' u q n
-    move_known (ByStarter g) i = (i.0, sym same_head ∙ i.1, by_host (λ args y. IsStarted p u q args y) (λ args j. ch.starters u q args d j) g i.2)
+    move_known (ByStarter g) i = (
+      i.0,
+      sym same_head ∙ i.1,
+      by_host (λ args y. IsStarted p u q args y) (λ args j. ch.starters u q args d j) g i.2,
+    )
     move_known ByWords i = subst (λ (l : Slot). IsReady p u q l.args l.header) (sym (ch.slots u d)) i
-    move_known (ByClaimer g) i = (sym same_head ∙ i.0, by_host (λ args y. IsClaimed p u q args y) (λ args j. ch.claimers u q args d j) g i.1)
+    move_known (ByClaimer g) i = (
+      sym same_head ∙ i.0,
+      by_host (λ args y. IsClaimed p u q args y) (λ args j. ch.claimers u q args d j) g i.1,
+    )
 
   thread_at : (u : ℕ) (q : Seat) → slice_get c'.seats u ≡ Some q → (b : Bool) → nat_eq v u ≡ b → IsKnown p k' u q (known' u)
   thread_at u q e true d =
       let same = nat_eq-same v u d in
       subst (λ j. IsKnown p k' u q j) (sym (put_at st.known v u kn d))
       (subst (λ j. IsKnown p k' j q kn) same (ch.place q (subst (λ j. slice_get c'.seats j ≡ Some q) (sym same) e)))
-  thread_at u q e false d = subst (λ j. IsKnown p k' u q j) (sym (put_other st.known v u kn d)) (move_known u q d (st.known u) (st.threads u q (ch.seats u q d e)))
+  thread_at u q e false d = subst (λ j. IsKnown p k' u q j) (sym (put_other st.known v u kn d))
+      (move_known u q d (st.known u) (st.threads u q (ch.seats u q d e)))
 
   -- another host knows the same
   module _ (g : ℕ) (d : nat_eq h g ≡ false) where
@@ -134,7 +152,8 @@ module _ (p : CastScript) (k : Hosts) (c : Core) (st : StandsFor p k c) (h v : �
     knows_still Refused i = tt
 
   host_at : (g : ℕ) → (b : Bool) → nat_eq h g ≡ b → Knows known' (length c'.seats) g (k'.hosts g)
-  host_at g true d = subst (λ j. Knows known' (length c'.seats) j (k'.hosts j)) (nat_eq-same h g d) (subst (λ y. Knows known' (length c'.seats) h y) (sym ch.here) ch.knows)
+  host_at g true d = subst (λ j. Knows known' (length c'.seats) j (k'.hosts j)) (nat_eq-same h g d)
+      (subst (λ y. Knows known' (length c'.seats) h y) (sym ch.here) ch.knows)
   host_at g false d = subst (λ y. Knows known' (length c'.seats) g y) (sym (ch.others g d)) (knows_still g d (k.hosts g) (st.hosts g))
 
   changes_ok : StandsFor p k' c'
@@ -150,7 +169,8 @@ module _ (p : CastScript) (k : Hosts) (c : Core) (st : StandsFor p k c) (h v : �
 
 same_header-eq : (a b : Header) → same_header a b ≡ true → a ≡ b
 same_header-eq HEmpty HEmpty e = refl
-same_header-eq (HFunc g m) (HFunc j n) e = let x = and_parts (nat_eq g j) (same_type m n) e in ap (λ i. HFunc i m) (nat_eq-same g j x.0) ∙ ap (HFunc j) (same_type-eq m n x.1)
+same_header-eq (HFunc g m) (HFunc j n) e = let x = and_parts (nat_eq g j) (same_type m n) e in ap (λ i. HFunc i m) (nat_eq-same g j x.0)
+    ∙ ap (HFunc j) (same_type-eq m n x.1)
 same_header-eq HEmpty (HFunc g m) e = absurd (false≢true e)
 same_header-eq HEmpty HClaimed e = absurd (false≢true e)
 same_header-eq (HFunc g m) HEmpty e = absurd (false≢true e)
@@ -198,7 +218,9 @@ length_none (x ∷ m) e = absurd (omega arith)
 module _ (p : CastScript) (k : Hosts) (c : Core) (st : StandsFor p k c) (h : ℕ) where
   -- ---- the host alone changes
 
-  module _ (x : Host) (starters : (u : ℕ) (q : Seat) (args : List Val) → IsStarted p u q args (k.hosts h) → IsStarted p u q args x) (claimers : (u : ℕ) (q : Seat) (args : List Val) → IsClaimed p u q args (k.hosts h) → IsClaimed p u q args x) (knows : (known : ℕ → Known) → Knows known (length c.seats) h x) where
+  module _ (x : Host) (starters : (u : ℕ) (q : Seat) (args : List Val) → IsStarted p u q args (k.hosts h) → IsStarted p u q args x)
+      (claimers : (u : ℕ) (q : Seat) (args : List Val) → IsClaimed p u q args (k.hosts h) → IsClaimed p u q args x)
+      (knows : (known : ℕ → Known) → Knows known (length c.seats) h x) where
     pub alone_ok : StandsFor p (record k { hosts = put k.hosts h x }) c
     alone_ok = changes_ok p k c st h (length c.seats) x ByWords (record k { hosts = put k.hosts h x }) c
         (record {
@@ -223,12 +245,14 @@ module _ (p : CastScript) (k : Hosts) (c : Core) (st : StandsFor p k c) (h : ℕ
     where
       yes : (a b : ℕ) → nat_lt a b ≡ true → a < b
       yes a b y = grind arith
-  header_made t g m i false z = none_some _ (ap (λ (l : Slot). header_kind l.header) (sym (st.unmade t (past t (length c.seats) z))) ∙ ap header_kind i)
+  header_made t g m i false z = none_some _ (ap (λ (l : Slot). header_kind l.header) (sym (st.unmade t (past t (length c.seats) z)))
+      ∙ ap header_kind i)
     where
       past : (a b : ℕ) → nat_lt a b ≡ false → b < a + 1
       past a b y = grind arith
 
-  header_begun : (t g : ℕ) (m : Ty) → (k.slots t).header ≡ HFunc g m → (n : Known) (q : Seat) → IsKnown p k t q n → (owner n ≡ None) × Begun p g m (k.slots t).args q
+  header_begun : (t g : ℕ) (m : Ty) → (k.slots t).header ≡ HFunc g m → (n : Known) (q : Seat) → IsKnown p k t q n → (owner n ≡ None)
+      × Begun p g m (k.slots t).args q
   header_begun t g m i (ByStarter g') q y = none_some _ (ap header_kind (sym y.1 ∙ i))
   header_begun t g m i ByWords q y = (refl, (subst (λ a. IsReady p t q (k.slots t).args a) i y).1)
   header_begun t g m i (ByClaimer g') q y = absurd (false≢true (ap is_claimed (sym i ∙ y.0)))
@@ -236,35 +260,51 @@ module _ (p : CastScript) (k : Hosts) (c : Core) (st : StandsFor p k c) (h : ℕ
   -- ---- a thread that is claimed
 
   -- the seat of the thread that the host has claimed
-  claimed_seat : (t : ℕ) → st.known t ≡ ByClaimer h → t < length c.seats → (q : Seat) × (slice_get c.seats t ≡ Some q) × ((k.slots t).header ≡ HClaimed) × IsClaimed p t q (k.slots t).args (k.hosts h)
+  claimed_seat : (t : ℕ) → st.known t ≡ ByClaimer h → t < length c.seats → (q : Seat) × (slice_get c.seats t ≡ Some q)
+      × ((k.slots t).header ≡ HClaimed) × IsClaimed p t q (k.slots t).args (k.hosts h)
   claimed_seat t e i =
       let x = there c.seats t i in
       let y = subst (λ n. IsKnown p k t x.0 n) e (st.threads t x.0 x.1) in
       (x.0, x.1, y.0, y.1)
 
-  loading_started : (t g : ℕ) (m : Ty) (loaded : List Val) (u : ℕ) (q : Seat) (args : List Val) → IsStarted p u q args (Loads t g m loaded) → ⊥
+  loading_started : (t g : ℕ) (m : Ty) (loaded : List Val) (u : ℕ) (q : Seat) (args : List Val) → IsStarted p u q args (Loads t g m loaded)
+      → ⊥
   loading_started t g m loaded u q args i = i
 
   abbrev Loaded : ℕ → Seat → Host → Type 0
-  Loaded t q x = ((known : ℕ → Known) → known t ≡ ByClaimer h → t < length c.seats → Knows known (length c.seats) h x) × ((args : List Val) → (k.slots t).args ≡ args → IsClaimed p t q args x)
+  Loaded t q x = ((known : ℕ → Known) → known t ≡ ByClaimer h → t < length c.seats → Knows known (length c.seats) h x)
+      × ((args : List Val) → (k.slots t).args ≡ args → IsClaimed p t q args x)
 
   -- so many arguments are loaded: it loads the next one, or runs
-  loading_ok : (t g : ℕ) (m : Ty) (loaded rest : List Val) (q : Seat) → Begun p g m (k.slots t).args q → (k.slots t).args ≡ loaded ++ rest → Loaded t q (loading p t g m loaded)
+  loading_ok : (t g : ℕ) (m : Ty) (loaded rest : List Val) (q : Seat) → Begun p g m (k.slots t).args q → (k.slots t).args ≡ loaded ++ rest
+      → Loaded t q (loading p t g m loaded)
   loading_ok t g m loaded rest q b e = go (nat_le (arity m) (length loaded)) refl
     where
-      runs : (o : Option CastFunction) → slice_get p.functions g ≡ o → nat_le (arity m) (length loaded) ≡ true → Loaded t q (first_seat o t m loaded)
+      runs : (o : Option CastFunction) → slice_get p.functions g ≡ o → nat_le (arity m) (length loaded) ≡ true
+          → Loaded t q (first_seat o t m loaded)
       runs None i y = none_some _ (sym i ∙ b.at)
       runs (Some d) i y =
-          let all : rest ≡ [] = length_none rest (short (length rest) (length loaded) (arity m) (sym (length_more loaded rest) ∙ ap length (sym e) ∙ b.many) y) in
-          let args : (k.slots t).args ≡ loaded = e ∙ ap (λ l. loaded ++ l) all ∙ append_none loaded in
-          ((λ known j less. (j, less)), (λ as' j. (refl, ap (λ l. fresh_seat d m l) (sym args) ∙ ap (λ z. fresh_seat z m (k.slots t).args) (some_is (sym i ∙ b.at)) ∙ sym b.is)))
+          let all : rest ≡ [] = length_none rest
+          (short (length rest) (length loaded) (arity m) (sym (length_more loaded rest) ∙ ap length (sym e) ∙ b.many) y) in
+          let args : (k.slots t).args ≡ loaded = e ∙ ap (λ l. loaded ++ l) all ∙ append_none loaded in (
+            (λ known j less. (j, less)),
+            (λ as' j. (
+              refl,
+              ap (λ l. fresh_seat d m l) (sym args) ∙ ap (λ z. fresh_seat z m (k.slots t).args) (some_is (sym i ∙ b.at))
+                  ∙ sym b.is,
+            )),
+          )
         where
           short : (r l n : ℕ) → l + r ≡ n → nat_le n l ≡ true → r ≡ 0
           short r l n j z = grind arith
 
-      go : (z : Bool) → nat_le (arity m) (length loaded) ≡ z → Loaded t q (if z then first_seat (slice_get p.functions g) t m loaded else Loads t g m loaded)
+      go : (z : Bool) → nat_le (arity m) (length loaded) ≡ z
+          → Loaded t q (if z then first_seat (slice_get p.functions g) t m loaded else Loads t g m loaded)
       go true y = runs (slice_get p.functions g) refl y
-      go false y = ((λ known j less. (j, less)), (λ args' j. (refl, subst (λ l. Begun p g m l q) j b, (rest, sym j ∙ e), leb-false (arity m) (length loaded) y)))
+      go false y = (
+        (λ known j less. (j, less)),
+        (λ args' j. (refl, subst (λ l. Begun p g m l q) j b, (rest, sym j ∙ e), leb-false (arity m) (length loaded) y)),
+      )
 
   -- ---- a claim
 
@@ -282,7 +322,8 @@ module _ (p : CastScript) (k : Hosts) (c : Core) (st : StandsFor p k c) (h : ℕ
     after = record k { slots = put k.slots t (record (k.slots t) { header = HClaimed }); hosts = put k.hosts h (claimed p t w) }
 
     -- the thread is made, is known from its words, and becomes this host's
-    kept_by : t < length c.seats → owner (st.known t) ≡ None → ((q : Seat) → slice_get c.seats t ≡ Some q → Loaded t q (claimed p t w)) → StandsFor p after c
+    kept_by : t < length c.seats → owner (st.known t) ≡ None → ((q : Seat) → slice_get c.seats t ≡ Some q → Loaded t q (claimed p t w))
+        → StandsFor p after c
     kept_by less none loaded = changes_ok p k c st h t (claimed p t w) (ByClaimer h) after c
         (record {
           words = st.words;
@@ -296,10 +337,13 @@ module _ (p : CastScript) (k : Hosts) (c : Core) (st : StandsFor p k c) (h : ℕ
           claimers = λ u q args e i. no_claim u q args (claimed p t w) i;
           place = λ q e. (
             ap (λ (l : Slot). l.header) (put_here k.slots t (record (k.slots t) { header = HClaimed })),
-            subst (λ y. IsClaimed p t q ((put k.slots t (record (k.slots t) { header = HClaimed })) t).args y) (sym (put_here k.hosts h (claimed p t w)))
-                ((loaded q e).1 ((put k.slots t (record (k.slots t) { header = HClaimed })) t).args (sym (ap (λ (l : Slot). l.args) (put_here k.slots t (record (k.slots t) { header = HClaimed }))))),
+            subst (λ y. IsClaimed p t q ((put k.slots t (record (k.slots t) { header = HClaimed })) t).args y)
+                (sym (put_here k.hosts h (claimed p t w)))
+                ((loaded q e).1 ((put k.slots t (record (k.slots t) { header = HClaimed })) t).args
+                (sym (ap (λ (l : Slot). l.args) (put_here k.slots t (record (k.slots t) { header = HClaimed }))))),
           );
-          knows = let q = there c.seats t less in (loaded q.0 q.1).0 (put st.known t (ByClaimer h)) (put_here st.known t (ByClaimer h)) less;
+          knows = let q = there c.seats t less in (loaded q.0 q.1).0 (put st.known t (ByClaimer h))
+              (put_here st.known t (ByClaimer h)) less;
           mine = λ i g e. none_some _ (sym none ∙ e);
           unmade = λ u i. put_other k.slots t u (record (k.slots t) { header = HClaimed }) (apart t u less i) ∙ st.unmade u i;
         })
@@ -314,7 +358,10 @@ module _ (p : CastScript) (k : Hosts) (c : Core) (st : StandsFor p k c) (h : ℕ
         let less : t < length c.seats = subst (λ n. n < length c.seats) (sym zero_t) st.main in
         let q = there c.seats t less in
         let f = from (st.known t) zero_t q.0 (st.threads t q.0 q.1) in
-        kept_by less f.0 (λ r at. subst (λ y. Loaded t r (claimed p t y)) (sym e) ((λ known j m. (j, m)), (λ args j. (refl, sym f.1 ∙ some_is (sym q.1 ∙ at)))))
+        kept_by less f.0 (λ r at. subst (λ y. Loaded t r (claimed p t y)) (sym e) (
+          (λ known j m. (j, m)),
+          (λ args j. (refl, sym f.1 ∙ some_is (sym q.1 ∙ at))),
+        ))
       where
         from : (n : Known) → t ≡ 0 → (q : Seat) → IsKnown p k t q n → (owner n ≡ None) × (q ≡ main_seat p)
         from (ByStarter g) z q y = let a = y.0 in absurd (omega (arith, a, z))
@@ -327,7 +374,9 @@ module _ (p : CastScript) (k : Hosts) (c : Core) (st : StandsFor p k c) (h : ℕ
         let less = header_made t g m i (nat_lt t (length c.seats)) refl in
         let q = there c.seats t less in
         let f = header_begun t g m i (st.known t) q.0 (st.threads t q.0 q.1) in
-        kept_by less f.0 (λ r at. subst (λ y. Loaded t r (claimed p t y)) (sym e) (loading_ok t g m [] (k.slots t).args r (subst (λ z. Begun p g m (k.slots t).args z) (some_is (sym q.1 ∙ at)) f.1) refl))
+        kept_by less f.0
+        (λ r at. subst (λ y. Loaded t r (claimed p t y)) (sym e)
+        (loading_ok t g m [] (k.slots t).args r (subst (λ z. Begun p g m (k.slots t).args z) (some_is (sym q.1 ∙ at)) f.1) refl))
 
     claim_by : (v : Header) → w ≡ v → (k.slots t).header ≡ v → same_header v v ≡ true → StandsFor p after c
     claim_by HEmpty e i z = main_claim e i
@@ -337,12 +386,14 @@ module _ (p : CastScript) (k : Hosts) (c : Core) (st : StandsFor p k c) (h : ℕ
   pub claim_ok : (s : Settings) (t : ℕ) (w : Header) → k.hosts h ≡ Claims t w → StandsFor p (H.claims p s k h t w) c
   claim_ok s t w x =
       on_test (same_header w (k.slots t).header) _ _ (λ y. StandsFor p y c)
-      (λ yes'. let e = same_header-eq w (k.slots t).header yes' in claim_by t w x w refl (sym e) (subst (λ y. same_header w y ≡ true) (sym e) yes'))
+      (λ yes'. let e = same_header-eq w (k.slots t).header yes' in claim_by t w x w refl (sym e)
+      (subst (λ y. same_header w y ≡ true) (sym e) yes'))
       (λ no'. refused_ok t w x)
 
   -- ---- an argument is loaded
 
-  pub load_ok : (s : Settings) (t g : ℕ) (m : Ty) (loaded : List Val) → k.hosts h ≡ Loads t g m loaded → (o : Option Val) → slice_get (k.slots t).args (length loaded) ≡ o → StandsFor p (H.loads p s k h t g m loaded o) c
+  pub load_ok : (s : Settings) (t g : ℕ) (m : Ty) (loaded : List Val) → k.hosts h ≡ Loads t g m loaded → (o : Option Val)
+      → slice_get (k.slots t).args (length loaded) ≡ o → StandsFor p (H.loads p s k h t g m loaded o) c
   load_ok s t g m loaded x None e = st
   load_ok s t g m loaded x (Some v) e =
       let kn = subst (λ y. Knows st.known (length c.seats) h y) x (st.hosts h) in
@@ -351,7 +402,8 @@ module _ (p : CastScript) (k : Hosts) (c : Core) (st : StandsFor p k c) (h : ℕ
       let rest = i.2 in
       let r = rest_is rest.0 v (sym (get_behind loaded rest.0) ∙ ap (λ l. slice_get l (length loaded)) (sym rest.1) ∙ e) in
       let next = loading_ok t g m (loaded ++ v ∷ []) r.0 q.0 i.1 (rest.1 ∙ ap (λ l. loaded ++ l) r.1 ∙ sym (append_one loaded v r.0)) in
-      changes_ok p k c st h t (loading p t g m (loaded ++ v ∷ [])) (ByClaimer h) (record k { hosts = put k.hosts h (loading p t g m (loaded ++ v ∷ [])) }) c
+      changes_ok p k c st h t (loading p t g m (loaded ++ v ∷ [])) (ByClaimer h)
+      (record k { hosts = put k.hosts h (loading p t g m (loaded ++ v ∷ [])) }) c
       (record {
         words = st.words;
         made = st.made;
@@ -362,7 +414,12 @@ module _ (p : CastScript) (k : Hosts) (c : Core) (st : StandsFor p k c) (h : ℕ
         seats = λ u y d a. a;
         starters = λ u y args d a. absurd (subst (λ z. IsStarted p u y args z) x a);
         claimers = λ u y args d a. absurd (not_same u (subst (λ z. nat_eq z u ≡ false) (subst (λ z. IsClaimed p u y args z) x a).0 d));
-        place = λ y a. (q.2, subst (λ z. IsClaimed p t y (k.slots t).args z) (sym (put_here k.hosts h (loading p t g m (loaded ++ v ∷ [])))) (subst (λ z. IsClaimed p t z (k.slots t).args (loading p t g m (loaded ++ v ∷ []))) (some_is (sym q.1 ∙ a)) (next.1 (k.slots t).args refl)));
+        place = λ y a. (
+          q.2,
+          subst (λ z. IsClaimed p t y (k.slots t).args z) (sym (put_here k.hosts h (loading p t g m (loaded ++ v ∷ []))))
+              (subst (λ z. IsClaimed p t z (k.slots t).args (loading p t g m (loaded ++ v ∷ []))) (some_is (sym q.1 ∙ a))
+              (next.1 (k.slots t).args refl)),
+        );
         knows = next.0 (put st.known t (ByClaimer h)) (put_here st.known t (ByClaimer h)) kn.1;
         mine = λ a j d. some_is (sym (ap owner kn.0) ∙ d);
         unmade = st.unmade;
@@ -375,7 +432,8 @@ module _ (p : CastScript) (k : Hosts) (c : Core) (st : StandsFor p k c) (h : ℕ
     kn = subst (λ y. Knows st.known (length c.seats) h y) x (st.hosts h)
 
     -- the new thread's seat
-    new_seat : (r : Seat) × (slice_get c.seats u ≡ Some r) × (0 < u) × ((k.slots u).header ≡ HEmpty) × Begun p g m ((k.slots u).args ++ left) r
+    new_seat : (r : Seat) × (slice_get c.seats u ≡ Some r) × (0 < u) × ((k.slots u).header ≡ HEmpty)
+        × Begun p g m ((k.slots u).args ++ left) r
     new_seat =
         let a = there c.seats u kn.3 in
         let b = subst (λ n. IsKnown p k u a.0 n) kn.2 (st.threads u a.0 a.1) in
@@ -396,8 +454,11 @@ module _ (p : CastScript) (k : Hosts) (c : Core) (st : StandsFor p k c) (h : ℕ
     abbrev slot_in : Slot → Host → Hosts
     slot_in l y = record k { slots = put k.slots u l; hosts = put k.hosts h y }
 
-    stored_ok : (l : Slot) (y : Host) (n : Known) → ((w : ℕ) (z : Seat) (args : List Val) → nat_eq u w ≡ false → IsStarted p w z args (k.hosts h) → IsStarted p w z args y) → ((w : ℕ) (z : Seat) (args : List Val) → nat_eq u w ≡ false → IsClaimed p w z args (k.hosts h) → IsClaimed p w z args y) →
-        ((z : Seat) → slice_get c.seats u ≡ Some z → IsKnown p (slot_in l y) u z n) → Knows (put st.known u n) (length c.seats) h y → StandsFor p (slot_in l y) c
+    stored_ok : (l : Slot) (y : Host) (n : Known)
+        → ((w : ℕ) (z : Seat) (args : List Val) → nat_eq u w ≡ false → IsStarted p w z args (k.hosts h) → IsStarted p w z args y)
+        → ((w : ℕ) (z : Seat) (args : List Val) → nat_eq u w ≡ false → IsClaimed p w z args (k.hosts h) → IsClaimed p w z args y) →
+        ((z : Seat) → slice_get c.seats u ≡ Some z → IsKnown p (slot_in l y) u z n) → Knows (put st.known u n) (length c.seats) h y
+        → StandsFor p (slot_in l y) c
     stored_ok l y n starters claimers place knows = changes_ok p k c st h u y n (slot_in l y) c
         (record {
           words = st.words;
@@ -421,15 +482,19 @@ module _ (p : CastScript) (k : Hosts) (c : Core) (st : StandsFor p k c) (h : ℕ
     still_mine : (n : Known) → put st.known u n t ≡ ByClaimer h
     still_mine n = put_other st.known u t n other_thread ∙ kn.0
 
-  pub start_ok : (s : Settings) (t : ℕ) (q : Seat) (u g : ℕ) (m : Ty) (left : List Val) → k.hosts h ≡ Starts t q u g m left → StandsFor p (H.starts p s k h t q u g m left) c
+  pub start_ok : (s : Settings) (t : ℕ) (q : Seat) (u g : ℕ) (m : Ty) (left : List Val) → k.hosts h ≡ Starts t q u g m left
+      → StandsFor p (H.starts p s k h t q u g m left) c
   start_ok s t q u g m [] x =
       let l : Slot = record (k.slots u) { header = HFunc g m } in
       let f = new_seat s t q u g m [] x in
       stored_ok s t q u g m [] x l (Runs t q) ByWords
       (λ w z args d a. absurd (not_same w (subst (λ j. nat_eq j w ≡ false) (subst (λ y. IsStarted p w z args y) x a).0 d)))
       (λ w z args d a. subst (λ y. IsClaimed p w z args y) x a)
-      (λ z a. subst (λ y. IsReady p u z y.args y.header) (sym (put_here k.slots u l))
-      (f.2, subst (λ y. Begun p g m (k.slots u).args y) (some_is (sym f.1 ∙ a)) (subst (λ y. Begun p g m y f.0) (append_none (k.slots u).args) f.4)))
+      (λ z a. subst (λ y. IsReady p u z y.args y.header) (sym (put_here k.slots u l)) (
+        f.2,
+        subst (λ y. Begun p g m (k.slots u).args y) (some_is (sym f.1 ∙ a))
+            (subst (λ y. Begun p g m y f.0) (append_none (k.slots u).args) f.4),
+      ))
       (still_mine s t q u g m [] x ByWords, (kn s t q u g m [] x).1)
   start_ok s t q u g m (v ∷ vs) x =
       let l : Slot = record (k.slots u) { args = (k.slots u).args ++ v ∷ [] } in
@@ -441,10 +506,18 @@ module _ (p : CastScript) (k : Hosts) (c : Core) (st : StandsFor p k c) (h : ℕ
       (λ z a. (
         f.2,
         ap (λ (j : Slot). j.header) (put_here k.slots u l) ∙ f.3,
-        subst (λ j. IsStarted p u z ((put k.slots u l) u).args j) (sym (put_here k.hosts h y))
-            (refl, subst (λ j. Begun p g m (j ++ vs) z) (sym (ap (λ (j : Slot). j.args) (put_here k.slots u l))) (subst (λ j. Begun p g m j z) (sym (append_one (k.slots u).args v vs)) (subst (λ j. Begun p g m ((k.slots u).args ++ v ∷ vs) j) (some_is (sym f.1 ∙ a)) f.4))),
-      ))
-      (still_mine s t q u g m (v ∷ vs) x (ByStarter h), (kn s t q u g m (v ∷ vs) x).1, put_here st.known u (ByStarter h), (kn s t q u g m (v ∷ vs) x).3)
+        subst (λ j. IsStarted p u z ((put k.slots u l) u).args j) (sym (put_here k.hosts h y)) (
+          refl,
+          subst (λ j. Begun p g m (j ++ vs) z) (sym (ap (λ (j : Slot). j.args) (put_here k.slots u l)))
+              (subst (λ j. Begun p g m j z) (sym (append_one (k.slots u).args v vs))
+              (subst (λ j. Begun p g m ((k.slots u).args ++ v ∷ vs) j) (some_is (sym f.1 ∙ a)) f.4)),
+        ),
+      )) (
+        still_mine s t q u g m (v ∷ vs) x (ByStarter h),
+        (kn s t q u g m (v ∷ vs) x).1,
+        put_here st.known u (ByStarter h),
+        (kn s t q u g m (v ∷ vs) x).3,
+      )
 
   -- ---- a thread runs
 
@@ -459,8 +532,10 @@ module _ (p : CastScript) (k : Hosts) (c : Core) (st : StandsFor p k c) (h : ℕ
         (y.1 ∙ ap Some (sym i.1), y.2)
 
     -- its seat and the words change
-    moved_ok : (w w' : Words) (r : Seat) → w ≡ w' → StandsFor p (record k { words = w; hosts = put k.hosts h (Runs t r) }) (record { words = w'; seats = slice_set c.seats t r })
-    moved_ok w w' r e = changes_ok p k c st h t (Runs t r) (ByClaimer h) (record k { words = w; hosts = put k.hosts h (Runs t r) }) (record { words = w'; seats = slice_set c.seats t r })
+    moved_ok : (w w' : Words) (r : Seat) → w ≡ w' → StandsFor p (record k { words = w; hosts = put k.hosts h (Runs t r) })
+        (record { words = w'; seats = slice_set c.seats t r })
+    moved_ok w w' r e = changes_ok p k c st h t (Runs t r) (ByClaimer h) (record k { words = w; hosts = put k.hosts h (Runs t r) })
+        (record { words = w'; seats = slice_set c.seats t r })
         (record {
           words = e;
           made = st.made ∙ sym (length-slice_set c.seats t r);
@@ -468,10 +543,15 @@ module _ (p : CastScript) (k : Hosts) (c : Core) (st : StandsFor p k c) (h : ℕ
           here = put_here k.hosts h (Runs t r);
           others = λ g d. put_other k.hosts h g (Runs t r) d;
           slots = λ u d. refl;
-          seats = λ u z d a. ⊎_elim (λ i. absurd (not_same u (subst (λ j. nat_eq j u ≡ false) i.0 d))) (λ i. i) (set_cases c.seats t u r z a);
+          seats = λ u z d a. ⊎_elim (λ i. absurd (not_same u (subst (λ j. nat_eq j u ≡ false) i.0 d))) (λ i. i)
+              (set_cases c.seats t u r z a);
           starters = λ u z args d a. absurd (subst (λ y. IsStarted p u z args y) x a);
           claimers = λ u z args d a. absurd (not_same u (subst (λ j. nat_eq j u ≡ false) (subst (λ y. IsClaimed p u z args y) x a).0 d));
-          place = λ z a. (runs_seat.1, subst (λ y. IsClaimed p t z (k.slots t).args y) (sym (put_here k.hosts h (Runs t r))) (refl, some_is (sym (set_here c.seats t r q runs_seat.0) ∙ a)));
+          place = λ z a. (
+            runs_seat.1,
+            subst (λ y. IsClaimed p t z (k.slots t).args y) (sym (put_here k.hosts h (Runs t r)))
+                (refl, some_is (sym (set_here c.seats t r q runs_seat.0) ∙ a)),
+          );
           knows = (put_here st.known t (ByClaimer h), subst (λ n. t < n) (sym (length-slice_set c.seats t r)) runs_known.1);
           mine = λ a g d. some_is (sym (ap owner runs_known.0) ∙ d);
           unmade = λ u i. st.unmade u (subst (λ n. n < u + 1) (length-slice_set c.seats t r) i);
@@ -482,7 +562,8 @@ module _ (p : CastScript) (k : Hosts) (c : Core) (st : StandsFor p k c) (h : ℕ
 
 -- ---- a thread draws another
 
-module _ (p : CastScript) (k : Hosts) (c : Core) (st : StandsFor p k c) (h t : ℕ) (q : Seat) (x : k.hosts h ≡ Runs t q) (g : ℕ) (m : Ty) (args : List Val) (new : Seat) (b : Begun p g m args new) where
+module _ (p : CastScript) (k : Hosts) (c : Core) (st : StandsFor p k c) (h t : ℕ) (q : Seat) (x : k.hosts h ≡ Runs t q) (g : ℕ) (m : Ty)
+    (args : List Val) (new : Seat) (b : Begun p g m args new) where
   abbrev u : ℕ
   u = length c.seats
 
@@ -510,15 +591,20 @@ module _ (p : CastScript) (k : Hosts) (c : Core) (st : StandsFor p k c) (h t : �
         here = put_here k.hosts h starting;
         others = λ j d. put_other k.hosts h j starting d;
         slots = λ w d. refl;
-        seats = λ w z d a. ⊎_elim (λ i. i) (λ i. absurd (not_same w (subst (λ j. nat_eq j w ≡ false) (sym i.0) d))) (end_cases c.seats w new z a);
+        seats = λ w z d a. ⊎_elim (λ i. i) (λ i. absurd (not_same w (subst (λ j. nat_eq j w ≡ false) (sym i.0) d)))
+            (end_cases c.seats w new z a);
         starters = λ w z args' d a. absurd (subst (λ y. IsStarted p w z args' y) x a);
         claimers = λ w z args' d a. subst (λ y. IsClaimed p w z args' y) x a;
         place = λ z a.
-            let same : new ≡ z = ⊎_elim (λ i. let l = slice_get_within c.seats u z i in absurd (omega (arith, l))) (λ i. i.1) (end_cases c.seats u new z a) in (
+            let same : new ≡ z = ⊎_elim (λ i. let l = slice_get_within c.seats u z i in absurd (omega (arith, l))) (λ i. i.1)
+            (end_cases c.seats u new z a) in (
               st.main,
               ap (λ (l : Slot). l.header) zero_slot,
-              subst (λ y. IsStarted p u z (k.slots u).args y) (sym (put_here k.hosts h starting))
-                  (refl, subst (λ l. Begun p g m (l ++ args) z) (sym (ap (λ (l : Slot). l.args) zero_slot)) (subst (λ y. Begun p g m args y) same b)),
+              subst (λ y. IsStarted p u z (k.slots u).args y) (sym (put_here k.hosts h starting)) (
+                refl,
+                subst (λ l. Begun p g m (l ++ args) z) (sym (ap (λ (l : Slot). l.args) zero_slot))
+                    (subst (λ y. Begun p g m args y) same b),
+              ),
             );
         knows = (
           put_other st.known u t (ByStarter h) (unlike t u kn.1) ∙ kn.0,
@@ -543,10 +629,12 @@ module _ (p : CastScript) (k : Hosts) (c : Core) (st : StandsFor p k c) (h t : �
       earlier a z w e i = omega arith
 
 put_again : {A : Type 0} (f : ℕ → A) (h : ℕ) (x y : A) (j : ℕ) → put (put f h x) h y j ≡ put f h y j
-put_again f h x y j = on_test (nat_eq h j) _ _ (λ z. z ≡ put f h y j) (λ e. sym (put_at f h j y e)) (λ e. put_other f h j x e ∙ sym (put_other f h j y e))
+put_again f h x y j = on_test (nat_eq h j) _ _ (λ z. z ≡ put f h y j) (λ e. sym (put_at f h j y e))
+    (λ e. put_other f h j x e ∙ sym (put_other f h j y e))
 
 -- hosts that are the same at each number
-same_hosts : (p : CastScript) (k : Hosts) (c : Core) (f : ℕ → Host) → ((j : ℕ) → k.hosts j ≡ f j) → StandsFor p k c → StandsFor p (record k { hosts = f }) c
+same_hosts : (p : CastScript) (k : Hosts) (c : Core) (f : ℕ → Host) → ((j : ℕ) → k.hosts j ≡ f j) → StandsFor p k c
+    → StandsFor p (record k { hosts = f }) c
 same_hosts p k c f e st = record {
   words = st.words;
   made = st.made;
@@ -562,7 +650,8 @@ same_hosts p k c f e st = record {
     at u q ByWords i = i
     at u q (ByClaimer h) i = (i.0, subst (λ y. IsClaimed p u q (k.slots u).args y) (e h) i.1)
 
-module _ (p : CastScript) (pok : IsTypedProgram p) (s : Settings) (k : Hosts) (rs : List Ty) (c : Core) (ok : CoreOk p rs c) (st : StandsFor p k c) (h t : ℕ) (q : Seat) (x : k.hosts h ≡ Runs t q) where
+module _ (p : CastScript) (pok : IsTypedProgram p) (s : Settings) (k : Hosts) (rs : List Ty) (c : Core) (ok : CoreOk p rs c)
+    (st : StandsFor p k c) (h t : ℕ) (q : Seat) (x : k.hosts h ≡ Runs t q) where
   abbrev By : Hosts → Core → Type 0
   By k' c' = StandsFor p k' c'
 
@@ -579,34 +668,46 @@ module _ (p : CastScript) (pok : IsTypedProgram p) (s : Settings) (k : Hosts) (r
   answered_ok : (res : Answer → Seat) (r : Words × Answer) → By (H.answers p s k h t res r) (answered s c t res r)
   answered_ok res r = moved_ok p k c st h s t q x r.0 r.0 (res r.1) refl
 
-  draws_ok : (res : Answer → Seat) (n g : ℕ) (m : Ty) (args : List Val) (new : Seat) → Begun p g m args new → By (H.draws p s k h t res n g m args) (Rattle.word_machine.specs.Words.begins s c t res n new)
-  draws_ok res n g m args new b = subst (λ z. By (by_count z) (Rattle.word_machine.specs.Words.begins s c t res n new)) (sym st.made) (go (nat_eq n (length c.seats)) (nat_le 256 (length c.seats)) refl)
+  draws_ok : (res : Answer → Seat) (n g : ℕ) (m : Ty) (args : List Val) (new : Seat) → Begun p g m args new
+      → By (H.draws p s k h t res n g m args) (Rattle.word_machine.specs.Words.begins s c t res n new)
+  draws_ok res n g m args new b = subst (λ z. By (by_count z) (Rattle.word_machine.specs.Words.begins s c t res n new)) (sym st.made)
+      (go (nat_eq n (length c.seats)) (nat_le 256 (length c.seats)) refl)
     where
       by_count : ℕ → Hosts
       by_count z =
           if nat_eq n z
-          then (if nat_le 256 z then record k { hosts = put k.hosts h (Runs t (res Full)) } else record k { made = k.made + 1; hosts = put k.hosts h (Starts t (res (Drawn z)) z g m args) })
+          then (if nat_le 256 z then record k { hosts = put k.hosts h (Runs t (res Full)) }
+          else record k { made = k.made + 1; hosts = put k.hosts h (Starts t (res (Drawn z)) z g m args) })
           else record k { hosts = put k.hosts h (Runs t (res (Counts z))) }
 
       one : Seat → Hosts
       one r = record k { hosts = put k.hosts h (Runs t r) }
 
-      two : (r : Seat) → By (record k { made = k.made + 1; hosts = put k.hosts h (Starts t r (length c.seats) g m args) }) (record { words = c.words; seats = slice_set c.seats t r ++ new ∷ [] })
+      two : (r : Seat) → By (record k { made = k.made + 1; hosts = put k.hosts h (Starts t r (length c.seats) g m args) })
+          (record { words = c.words; seats = slice_set c.seats t r ++ new ∷ [] })
       two r =
           let c1 : Core = record { words = c.words; seats = slice_set c.seats t r } in
           let len = length-slice_set c.seats t r in
-          subst (λ l. By (record k { made = k.made + 1; hosts = put k.hosts h (Starts t r l g m args) }) (record { words = c.words; seats = slice_set c.seats t r ++ new ∷ [] })) len
-          (same_hosts p (record k { made = k.made + 1; hosts = put (put k.hosts h (Runs t r)) h (Starts t r (length c1.seats) g m args) }) (record { words = c.words; seats = c1.seats ++ new ∷ [] })
-          (put k.hosts h (Starts t r (length c1.seats) g m args)) (λ j. put_again k.hosts h (Runs t r) (Starts t r (length c1.seats) g m args) j)
+          subst (λ l. By (record k { made = k.made + 1; hosts = put k.hosts h (Starts t r l g m args) })
+          (record { words = c.words; seats = slice_set c.seats t r ++ new ∷ [] })) len
+          (same_hosts p (record k { made = k.made + 1; hosts = put (put k.hosts h (Runs t r)) h (Starts t r (length c1.seats) g m args) })
+          (record { words = c.words; seats = c1.seats ++ new ∷ [] })
+          (put k.hosts h (Starts t r (length c1.seats) g m args))
+          (λ j. put_again k.hosts h (Runs t r) (Starts t r (length c1.seats) g m args) j)
           (drawn_ok p (one r) c1 (seat_only r) h t r (put_here k.hosts h (Runs t r)) g m args new b))
 
       go : (y z : Bool) → nat_eq n (length c.seats) ≡ y →
           By
           (if y
-          then (if z then one (res Full) else record k { made = k.made + 1; hosts = put k.hosts h (Starts t (res (Drawn (length c.seats))) (length c.seats) g m args) })
+          then (if z then one (res Full)
+          else record k {
+            made = k.made + 1;
+            hosts = put k.hosts h (Starts t (res (Drawn (length c.seats))) (length c.seats) g m args);
+          })
           else one (res (Counts (length c.seats))))
           (if y
-          then (if z then answered s c t res (c.words, Full) else record { words = c.words; seats = slice_set c.seats t (res (Drawn (length c.seats))) ++ new ∷ [] })
+          then (if z then answered s c t res (c.words, Full)
+          else record { words = c.words; seats = slice_set c.seats t (res (Drawn (length c.seats))) ++ new ∷ [] })
           else answered s c t res (c.words, Counts (length c.seats)))
       go true true e = seat_only (res Full)
       go true false e = two (res (Drawn (length c.seats)))
@@ -635,7 +736,11 @@ module _ (p : CastScript) (pok : IsTypedProgram p) (s : Settings) (k : Hosts) (c
   pub acts_ok : (h : ℕ) (x : Host) → k.hosts h ≡ x → Held p (H.acts p s k h x) (after_ticks p s c (host_ticks x))
   acts_ok h Idle e = i
   acts_ok h (Claims t w) e = record { results = i.results; ok = i.ok; stands = claim_ok p k c i.stands h s t w e }
-  acts_ok h (Loads t g m loaded) e = record { results = i.results; ok = i.ok; stands = load_ok p k c i.stands h s t g m loaded e (slice_get (k.slots t).args (length loaded)) refl }
+  acts_ok h (Loads t g m loaded) e = record {
+    results = i.results;
+    ok = i.ok;
+    stands = load_ok p k c i.stands h s t g m loaded e (slice_get (k.slots t).args (length loaded)) refl;
+  }
   acts_ok h (Runs t q) e =
       let good = tick_ok p pok s i.results c i.ok t in
       record { results = good.results; ok = good.ok; stands = ticked_ok p pok s k i.results c i.ok i.stands h t q e }
@@ -643,11 +748,13 @@ module _ (p : CastScript) (pok : IsTypedProgram p) (s : Settings) (k : Hosts) (c
   acts_ok h Refused e = i
 
   -- an idle host is begun
-  begin_ok : (h t : ℕ) (w : Header) → ((known : ℕ → Known) → Knows known (length c.seats) h (Claims t w)) → (x : Host) → k.hosts h ≡ x → Held p (H.begins p s k h t w x) c
+  begin_ok : (h t : ℕ) (w : Header) → ((known : ℕ → Known) → Knows known (length c.seats) h (Claims t w)) → (x : Host) → k.hosts h ≡ x
+      → Held p (H.begins p s k h t w x) c
   begin_ok h t w knows Idle e = record {
     results = i.results;
     ok = i.ok;
-    stands = alone_ok p k c i.stands h (Claims t w) (λ u q args j. absurd (subst (λ y. IsStarted p u q args y) e j)) (λ u q args j. absurd (subst (λ y. IsClaimed p u q args y) e j)) knows;
+    stands = alone_ok p k c i.stands h (Claims t w) (λ u q args j. absurd (subst (λ y. IsStarted p u q args y) e j))
+        (λ u q args j. absurd (subst (λ y. IsClaimed p u q args y) e j)) knows;
   }
   begin_ok h t w knows (Claims u y) e = i
   begin_ok h t w knows (Loads u g m loaded) e = i
@@ -661,17 +768,22 @@ module _ (p : CastScript) (pok : IsTypedProgram p) (s : Settings) (k : Hosts) (c
       go : (b : Bool) → Held p (if b then H.acts p s k h (k.hosts h) else k) (after_ticks p s c (if b then host_ticks (k.hosts h) else []))
       go true = acts_ok h (k.hosts h) refl
       go false = i
-  happens_ok (BeginsMain h) = on_test (nat_lt h 256) _ _ (λ y. Held p y c) (λ e. begin_ok h 0 HEmpty (λ known. refl) (k.hosts h) refl) (λ e. i)
-  happens_ok (Begins h t g m) = on_test (nat_lt h 256) _ _ (λ y. Held p y c) (λ e. begin_ok h t (HFunc g m) (λ known. tt) (k.hosts h) refl) (λ e. i)
+  happens_ok (BeginsMain h) = on_test (nat_lt h 256) _ _ (λ y. Held p y c) (λ e. begin_ok h 0 HEmpty (λ known. refl) (k.hosts h) refl)
+      (λ e. i)
+  happens_ok (Begins h t g m) = on_test (nat_lt h 256) _ _ (λ y. Held p y c) (λ e. begin_ok h t (HFunc g m) (λ known. tt) (k.hosts h) refl)
+      (λ e. i)
 
-ticks_more : (p : CastScript) (s : Settings) (c : Core) (xs ys : List ℕ) → after_ticks p s c (xs ++ ys) ≡ after_ticks p s (after_ticks p s c xs) ys
+ticks_more : (p : CastScript) (s : Settings) (c : Core) (xs ys : List ℕ)
+    → after_ticks p s c (xs ++ ys) ≡ after_ticks p s (after_ticks p s c xs) ys
 ticks_more p s c [] ys = refl
 ticks_more p s c (x ∷ xs) ys = ticks_more p s (tick p s c x) xs ys
 
-pub events_ok : (p : CastScript) → IsTypedProgram p → (s : Settings) (k : Hosts) (c : Core) → Held p k c → (es : List Event) → Held p (H.after_events p s k es) (after_ticks p s c (H.ticks_of p s k es))
+pub events_ok : (p : CastScript) → IsTypedProgram p → (s : Settings) (k : Hosts) (c : Core) → Held p k c → (es : List Event)
+    → Held p (H.after_events p s k es) (after_ticks p s c (H.ticks_of p s k es))
 events_ok p pok s k c i [] = i
 events_ok p pok s k c i (e ∷ es) =
-    subst (λ z. Held p (H.after_events p s (happens p s k e) es) z) (sym (ticks_more p s c (event_ticks k e) (H.ticks_of p s (happens p s k e) es)))
+    subst (λ z. Held p (H.after_events p s (happens p s k e) es) z)
+    (sym (ticks_more p s c (event_ticks k e) (H.ticks_of p s (happens p s k e) es)))
     (events_ok p pok s (happens p s k e) (after_ticks p s c (event_ticks k e)) (happens_ok p pok s k c i e) es)
 
 pub start_held : (p : CastScript) → IsTypedProgram p → (s : Settings) → Held p hosts_start (core_start p)
@@ -711,18 +823,22 @@ module _ (p : CastScript) (k : Hosts) (c : Core) (st : StandsFor p k c) where
         let q = claimed_seat p k c st h t kn.0 kn.1 in
         let i = subst (λ y. IsClaimed p t q.0 (k.slots t).args y) x q.3 in
         let rest = i.2 in
-        let v = more_there rest.0 (length rest.0) (length loaded) (arity m) refl (sym (length_more loaded rest.0) ∙ ap length (sym rest.1) ∙ (i.1).many) i.3 in
+        let v = more_there rest.0 (length rest.0) (length loaded) (arity m) refl (sym (length_more loaded rest.0) ∙ ap length (sym rest.1)
+        ∙ (i.1).many) i.3 in
         (v.0, ap (λ l. slice_get l (length loaded)) rest.1 ∙ get_behind loaded rest.0 ∙ v.1);
   }
 
 -- ---- with the calculus
 
-ticks_follow : (p : CastScript) (pok : IsTypedProgram p) → (s : Settings) (ts : List ℕ) (rs : List Ty) (c : Core) → CoreOk p rs c → (picks : List ℕ) → Now p pok s c picks → Follows p s (after_ticks p s c ts) (picks ++ H.picks_of p s c ts)
+ticks_follow : (p : CastScript) (pok : IsTypedProgram p) → (s : Settings) (ts : List ℕ) (rs : List Ty) (c : Core) → CoreOk p rs c
+    → (picks : List ℕ) → Now p pok s c picks → Follows p s (after_ticks p s c ts) (picks ++ H.picks_of p s c ts)
 ticks_follow p pok s [] rs c ok picks now = subst (λ l. Follows p s c l) (sym (append_none picks)) (follows p pok s rs c ok picks now)
 ticks_follow p pok s (t ∷ ts) rs c ok picks now =
     let r = ran_tick p pok s rs c ok t in
-    subst (λ l. Follows p s (after_ticks p s (tick p s c t) ts) l) (append_three picks (tick_picks p s c t) (H.picks_of p s (tick p s c t) ts))
-    (ticks_follow p pok s ts r.results (tick p s c t) r.ok (picks ++ tick_picks p s c t) (now_more p pok s c picks t (tick_picks p s c t) (tick p s c t) now r))
+    subst (λ l. Follows p s (after_ticks p s (tick p s c t) ts) l)
+    (append_three picks (tick_picks p s c t) (H.picks_of p s (tick p s c t) ts))
+    (ticks_follow p pok s ts r.results (tick p s c t) r.ok (picks ++ tick_picks p s c t)
+    (now_more p pok s c picks t (tick_picks p s c t) (tick p s c t) now r))
   where
     append_three : (xs ys zs : List ℕ) → (xs ++ ys) ++ zs ≡ xs ++ (ys ++ zs)
     append_three [] ys zs = refl
@@ -731,7 +847,8 @@ ticks_follow p pok s (t ∷ ts) rs c ok picks now =
 pub hosts_follow : HostsFollow
 hosts_follow p pok s events = (
   (events_ok p pok s hosts_start (core_start p) (start_held p pok s) events).stands,
-  hosts_right p (H.after_events p s hosts_start events) (after_ticks p s (core_start p) (H.ticks_of p s hosts_start events)) (events_ok p pok s hosts_start (core_start p) (start_held p pok s) events).stands,
+  hosts_right p (H.after_events p s hosts_start events) (after_ticks p s (core_start p) (H.ticks_of p s hosts_start events))
+      (events_ok p pok s hosts_start (core_start p) (start_held p pok s) events).stands,
   ticks_follow p pok s (H.ticks_of p s hosts_start events) (dyn ∷ []) (core_start p) (start_core p pok s) [] ((λ none. refl), refl, refl),
 )
 
@@ -745,11 +862,13 @@ module _ (p : CastScript) (pok : IsTypedProgram p) (s : Settings) (k : Hosts) (c
   ticked_grows h t q e =
       let good = tick_ok p pok s i.results c i.ok t in
       let st = ticked_ok p pok s k i.results c i.ok i.stands h t q e in
-      subst (λ w. Extends (k.words).heap w.heap) (sym st.words) (subst (λ w. Extends w.heap ((tick p s c t).words).heap) (sym (i.stands).words) good.grows)
+      subst (λ w. Extends (k.words).heap w.heap) (sym st.words)
+      (subst (λ w. Extends w.heap ((tick p s c t).words).heap) (sym (i.stands).words) good.grows)
 
   acts_grow : (h : ℕ) (x : Host) → k.hosts h ≡ x → Grows (H.acts p s k h x)
   acts_grow h Idle e = extends_refl (k.words).heap
-  acts_grow h (Claims t w) e = on_test (same_header w (k.slots t).header) _ _ Grows (λ y. extends_refl (k.words).heap) (λ y. extends_refl (k.words).heap)
+  acts_grow h (Claims t w) e = on_test (same_header w (k.slots t).header) _ _ Grows (λ y. extends_refl (k.words).heap)
+      (λ y. extends_refl (k.words).heap)
   acts_grow h (Loads t g m loaded) e = by_load (slice_get (k.slots t).args (length loaded))
     where
       by_load : (o : Option Val) → Grows (H.loads p s k h t g m loaded o)
@@ -773,26 +892,32 @@ module _ (p : CastScript) (pok : IsTypedProgram p) (s : Settings) (k : Hosts) (c
 
   happens_grow : (e : Event) → Grows (happens p s k e)
   happens_grow (Acts h) = on_test (nat_lt h 256) _ _ Grows (λ y. acts_grow h (k.hosts h) refl) (λ y. extends_refl (k.words).heap)
-  happens_grow (BeginsMain h) = on_test (nat_lt h 256) _ _ Grows (λ y. begins_grow h 0 HEmpty (k.hosts h)) (λ y. extends_refl (k.words).heap)
-  happens_grow (Begins h t g m) = on_test (nat_lt h 256) _ _ Grows (λ y. begins_grow h t (HFunc g m) (k.hosts h)) (λ y. extends_refl (k.words).heap)
+  happens_grow (BeginsMain h) = on_test (nat_lt h 256) _ _ Grows (λ y. begins_grow h 0 HEmpty (k.hosts h))
+      (λ y. extends_refl (k.words).heap)
+  happens_grow (Begins h t g m) = on_test (nat_lt h 256) _ _ Grows (λ y. begins_grow h t (HFunc g m) (k.hosts h))
+      (λ y. extends_refl (k.words).heap)
 
 module _ (p : CastScript) (s : Settings) where
   events_more : (k : Hosts) (es : List Event) (e : Event) → H.after_events p s k (es ++ e ∷ []) ≡ happens p s (H.after_events p s k es) e
   events_more k [] e = refl
   events_more k (x ∷ es) e = events_more (happens p s k x) es e
 
-  ticks_append : (k : Hosts) (es : List Event) (e : Event) → H.ticks_of p s k (es ++ e ∷ []) ≡ H.ticks_of p s k es ++ event_ticks (H.after_events p s k es) e
+  ticks_append : (k : Hosts) (es : List Event) (e : Event) → H.ticks_of p s k (es ++ e ∷ []) ≡ H.ticks_of p s k es ++ event_ticks
+      (H.after_events p s k es) e
   ticks_append k [] e = append_none (event_ticks k e)
-  ticks_append k (x ∷ es) e = ap (λ l. event_ticks k x ++ l) (ticks_append (happens p s k x) es e) ∙ sym (append_all (event_ticks k x) (H.ticks_of p s (happens p s k x) es) (event_ticks (H.after_events p s (happens p s k x) es) e))
+  ticks_append k (x ∷ es) e = ap (λ l. event_ticks k x ++ l) (ticks_append (happens p s k x) es e)
+      ∙ sym (append_all (event_ticks k x) (H.ticks_of p s (happens p s k x) es) (event_ticks (H.after_events p s (happens p s k x) es) e))
 
   picks_append : (c : Core) (xs ys : List ℕ) → H.picks_of p s c (xs ++ ys) ≡ H.picks_of p s c xs ++ H.picks_of p s (after_ticks p s c xs) ys
   picks_append c [] ys = refl
-  picks_append c (x ∷ xs) ys = ap (λ l. tick_picks p s c x ++ l) (picks_append (tick p s c x) xs ys) ∙ sym (append_all (tick_picks p s c x) (H.picks_of p s (tick p s c x) xs) (H.picks_of p s (after_ticks p s (tick p s c x) xs) ys))
+  picks_append c (x ∷ xs) ys = ap (λ l. tick_picks p s c x ++ l) (picks_append (tick p s c x) xs ys)
+      ∙ sym (append_all (tick_picks p s c x) (H.picks_of p s (tick p s c x) xs) (H.picks_of p s (after_ticks p s (tick p s c x) xs) ys))
 
   only_event : (k : Hosts) (c : Core) (h t : ℕ) (q : Seat) → k.hosts h ≡ Runs t q → OnlyOf t (H.picks_of p s c (event_ticks k (Acts h)))
   only_event k c h t q e =
       on_test (nat_lt h 256) _ _ (λ l. OnlyOf t (H.picks_of p s c l))
-      (λ y. subst (λ x. OnlyOf t (H.picks_of p s c (host_ticks x))) (sym e) (subst (OnlyOf t) (sym (append_none (tick_picks p s c t))) (only_tick (is_some (c.words).end) (tick_steps p s c t))))
+      (λ y. subst (λ x. OnlyOf t (H.picks_of p s c (host_ticks x))) (sym e)
+      (subst (OnlyOf t) (sym (append_none (tick_picks p s c t))) (only_tick (is_some (c.words).end) (tick_steps p s c t))))
       (λ y. tt)
     where
       only_tick : (a b : Bool) → OnlyOf t (if a then [] else (if b then t ∷ [] else []))

@@ -1,5 +1,7 @@
 -- A thread that has a step takes it alone, in boundedly many ticks.
-use Rattle.std.proofs.Common.{◌≡◌, ◌⊎◌, inl, inr, ⊎_elim, ℕ, zero, suc, ◌+◌, ◌-◌, ◌<◌, ◌≤◌, Bool, true, false, ◌&&◌, List, [], ◌∷◌, ◌++◌, length, Option, Some, None, is_some, unwrap_or, nat_eq, nat_le, if◌then◌else◌, refl, sym, ap, ◌∙◌, subst, arith, slice_get, slice_set}
+use Rattle.std.proofs.Common.{◌≡◌, ◌⊎◌, inl, inr, ⊎_elim, ℕ, zero, suc, ◌+◌, ◌-◌, ◌<◌, ◌≤◌, Bool, true, false, ◌&&◌, List, [], ◌∷◌, ◌++◌}
+use Rattle.std.proofs.Common.{length, Option, Some, None, is_some, unwrap_or, nat_eq, nat_le, if◌then◌else◌, refl, sym, ap, ◌∙◌, subst}
+use Rattle.std.proofs.Common.{arith, slice_get, slice_set}
 use Rattle.std.proofs.lemmas.Bool.{and_from, and_parts, false≢true}
 use Rattle.std.proofs.lemmas.Bool.Decides.{Decides-int_eq}
 use Rattle.mono_list.proofs.Cases.{none_some, some_is}
@@ -30,7 +32,8 @@ use Rattle.cast_machine.specs.Heap.{Heap, size, heap_size, cell_at, set_cell}
 use Rattle.cast_machine.specs.Rows.{has}
 use Rattle.cast_machine.specs.Cells.{same_type, settle, on_cell}
 use Rattle.cast_machine.specs.Calls.{all_finished, finished, join_of, leave_with, words_of}
-use Rattle.cast_machine.specs.Step.{Configuration, act, frame_items, is_runnable, moved, next_seed, picked, runnable_from, runnable_threads, start_of, step_at, step_of}
+use Rattle.cast_machine.specs.Step.{Configuration, act, frame_items, is_runnable, moved, next_seed, picked, runnable_from, runnable_threads}
+use Rattle.cast_machine.specs.Step.{start_of, step_at, step_of}
 use Rattle.cast_machine.specs.Safety.{is_wait}
 use Rattle.cast_machine.specs.computed.Seeded.{seeded, seeded_thread, picked_at}
 use Rattle.cast_machine.proofs.SeededRuns.{seeded-suc, seeded-ended, seeded-zero}
@@ -39,20 +42,26 @@ use Rattle.cast_machine.specs.Typing.{IsWellTypedState, around}
 use Rattle.cast_machine.specs.WorkTyping.{IsWellTypedTop}
 use Rattle.cast_machine.proofs.Heap.{length-update, nat_eq-refl, on_test}
 use Rattle.cast_machine.proofs.ThreadLists.{length-slice_set, set_here}
-use Rattle.word_machine.specs.Tops.{Top, TLocal, TMiss, TCell, TBlind, TNew, TPrint, TLook, TLeave, TJoin, TBegin, top_of, own, lift, CellSays, TopSays}
+use Rattle.word_machine.specs.Tops.{Top, TLocal, TMiss, TCell, TBlind, TNew, TPrint, TLook, TLeave, TJoin, TBegin, top_of, own, lift}
+use Rattle.word_machine.specs.Tops.{CellSays, TopSays}
 use Rattle.word_machine.specs.Words as W
-use Rattle.word_machine.specs.Words.{Words, Answer, Micro, Quick, Seen, Count, Filling, Seeing, Seat, Next, NLocal, NRest, NWants, NBegins, Core, deep, moves, turns, filling, guess, put_begun, fresh_seat, same_val, same_cell, thread_of, stands, acted, answered, tick_seat, tick, tick_steps, next_top, resume_top, next_action}
+use Rattle.word_machine.specs.Words.{Words, Answer, Micro, Quick, Seen, Count, Filling, Seeing, Seat, Next, NLocal, NRest, NWants, NBegins}
+use Rattle.word_machine.specs.Words.{Core, deep, moves, turns, filling, guess, put_begun, fresh_seat, same_val, same_cell, thread_of}
+use Rattle.word_machine.specs.Words.{stands, acted, answered, tick_seat, tick, tick_steps, next_top, resume_top, next_action}
 use Rattle.word_machine.specs.Follows.{core_start, Matches, is_filling}
 use Rattle.word_machine.specs.Hosts.{after_ticks}
 use Rattle.word_machine.specs.Lively.{IsSmall}
-use Rattle.word_machine.specs.Solo.{solo, one_or_two, seen_rank, leave_rank, top_rank, work_rank, base_rank, seat_rank, rank_in, rank, PicksByWords, all_results, work_runs, state_runs, runs_from, word_thread, word_pick, word_seeded, SeededByWords}
+use Rattle.word_machine.specs.Solo.{solo, one_or_two, seen_rank, leave_rank, top_rank, work_rank, base_rank, seat_rank, rank_in, rank}
+use Rattle.word_machine.specs.Solo.{PicksByWords, all_results, work_runs, state_runs, runs_from, word_thread, word_pick, word_seeded}
+use Rattle.word_machine.specs.Solo.{SeededByWords}
 use Rattle.word_machine.proofs.Saying.{says}
 use Rattle.word_machine.proofs.Waiting.{field_there, top_value}
 use Rattle.word_machine.proofs.CoreOk.{threads_get, fin, all_fin, Finishes, seen_grows, SeatBy, CoreOk, FillOk}
 use Rattle.word_machine.proofs.Leaf.{there, typed, typ, stepped, shown_row, fin_out}
 use Rattle.word_machine.proofs.Tick.{left_all, all_same, fin_same, tick_ok}
 use Rattle.word_machine.proofs.Follow.{start_core}
-use Rattle.word_machine.proofs.Lively.{ArmedTop, ArmedWork, Lively, AllLively, rowless, fits_on, main_lively, tick_lively, ticks_lively, core_after}
+use Rattle.word_machine.proofs.Lively.{ArmedTop, ArmedWork, Lively, AllLively, rowless, fits_on, main_lively, tick_lively, ticks_lively}
+use Rattle.word_machine.proofs.Lively.{core_after}
 
 -- ---- a word is the same as itself
 
@@ -103,11 +112,13 @@ IsReady d f TLeave = all_fin d f.started ≡ true
 IsReady d f (TJoin u) = (v : Val) × (d u ≡ Some v)
 IsReady d f T = Unit {0}
 
-module _ (p : CastScript) (pok : IsTypedProgram p) (s : Settings) (rs : List Ty) (k : Core) (ok : CoreOk p rs k) (none : (k.words).end ≡ None) (t : ℕ) (small : IsSmall p) where
+module _ (p : CastScript) (pok : IsTypedProgram p) (s : Settings) (rs : List Ty) (k : Core) (ok : CoreOk p rs k)
+    (none : (k.words).end ≡ None) (t : ℕ) (small : IsSmall p) where
   abbrev h : Heap
   h = (k.words).heap
 
-  module _ (a : Option Ty) (f : Frame) (below : List Frame) (n : ℕ) (item : Work) (is : List Work) (top : f.work ≡ item ∷ is) (i : IsWellTypedState p rs t h (typ a) (state.Running f below)) (sh : deep (state.Running f below) ≡ false) where
+  module _ (a : Option Ty) (f : Frame) (below : List Frame) (n : ℕ) (item : Work) (is : List Work) (top : f.work ≡ item ∷ is)
+      (i : IsWellTypedState p rs t h (typ a) (state.Running f below)) (sh : deep (state.Running f below) ≡ false) where
     abbrev q : Micro → Seat
     q m = record { asked = a; state = state.Running f below; steps = n; micro = m }
 
@@ -128,15 +139,19 @@ module _ (p : CastScript) (pok : IsTypedProgram p) (s : Settings) (rs : List Ty)
 
     -- the step is taken, or no word changes and the thread is nearer to it
     abbrev Near : Top → Micro → Bool → Core → Type 0
-    Near T m b k' = (b ≡ true) ⊎ ((m' : Micro) × (is_filling m' ≡ false) × (k' ≡ record { words = k.words; seats = slice_set k.seats t (q m') }) × (Rank T m' < Rank T m))
+    Near T m b k' = (b ≡ true)
+        ⊎ ((m' : Micro) × (is_filling m' ≡ false) × (k' ≡ record { words = k.words; seats = slice_set k.seats t (q m') })
+        × (Rank T m' < Rank T m))
 
     abbrev NearAns : Top → Micro → Words × Answer → Type 0
     NearAns T m r = Near T m (W.top_steps p s item g0 below T r.1) (answered s k t (resume_top p s (q m) m item g0 below T) r)
 
     abbrev NearAct : Top → Micro → Next → Type 0
-    NearAct T m r = Near T m (W.next_steps p s k.words (length k.seats) (W.top_steps p s item g0 below T) r) (acted s k t (resume_top p s (q m) m item g0 below T) r)
+    NearAct T m r = Near T m (W.next_steps p s k.words (length k.seats) (W.top_steps p s item g0 below T) r)
+        (acted s k t (resume_top p s (q m) m item g0 below T) r)
 
-    turned : (T : Top) (m m' : Micro) → is_filling m' ≡ false → Rank T m' < Rank T m → Near T m false (record { words = k.words; seats = slice_set k.seats t (q m') })
+    turned : (T : Top) (m m' : Micro) → is_filling m' ≡ false → Rank T m' < Rank T m
+        → Near T m false (record { words = k.words; seats = slice_set k.seats t (q m') })
     turned T m m' e l = inr (m', e, refl, l)
 
     no_row : (m : Micro) → At m → act p c2 item g0 below ≡ outcome.NoRow → ⊥
@@ -146,15 +161,22 @@ module _ (p : CastScript) (pok : IsTypedProgram p) (s : Settings) (rs : List Ty)
     cell_there : (b : ℕ) (x : List ℕ) → CellSays p item g0 b x → (d : Cell) × (cell_at h b x ≡ Some d)
     cell_there b x y = ⊎_elim
         (λ z. field_there p h ok.heap z.class b x (top_value p h f.values (i.0).types (val.Obj z.class b) z.rest z.is (i.0).values) z.has)
-        (λ z. pending z.0 z.1 z.2 (subst (λ w. IsWellTypedTop p (around (i.0).scope f.asked rs t) h [] (w ∷ is) f.values (i.0).types) z.3 (subst (λ w. IsWellTypedTop p (around (i.0).scope f.asked rs t) h [] w f.values (i.0).types) top (i.0).work)))
+        (λ z. pending z.0 z.1 z.2 (subst (λ w. IsWellTypedTop p (around (i.0).scope f.asked rs t) h [] (w ∷ is) f.values (i.0).types) z.3
+        (subst (λ w. IsWellTypedTop p (around (i.0).scope f.asked rs t) h [] w f.values (i.0).types) top (i.0).work)))
         y
       where
-        pending : (c : ℕ) (T : Ty) (r : Option Ready) → IsWellTypedTop p (around (i.0).scope f.asked rs t) h [] (work.Obligation c b x T r ∷ is) f.values (i.0).types → (d : Cell) × (cell_at h b x ≡ Some d)
+        pending : (c : ℕ) (T : Ty) (r : Option Ready)
+            → IsWellTypedTop p (around (i.0).scope f.asked rs t) h [] (work.Obligation c b x T r ∷ is) f.values (i.0).types
+            → (d : Cell) × (cell_at h b x ≡ Some d)
         pending c T None w = ((w.0).cell, (w.0).at)
         pending c T (Some r) w = ((w.0).cell, (w.0).at)
 
-    near_looked : (m : Micro) → At m → (b : ℕ) (x : List ℕ) (v : Cell → Verdict) → TopSays p c2 item g0 below (TCell b x v) → (d : Cell) → cell_at h b x ≡ Some d → 1 < Rank (TCell b x v) m → (y : Verdict) → v d ≡ y → Near (TCell b x v) m (W.verdict_steps below y) (record { words = k.words; seats = slice_set k.seats t (W.looked p s (q m) below d y) })
-    near_looked m at b x v say d here l verdict.NoRow e = absurd (no_row m at (say.1 ∙ ap (λ o. settle b x (on_cell say.0 v o) below) here ∙ ap (λ z. settle b x z below) e))
+    near_looked : (m : Micro) → At m → (b : ℕ) (x : List ℕ) (v : Cell → Verdict) → TopSays p c2 item g0 below (TCell b x v) → (d : Cell)
+        → cell_at h b x ≡ Some d → 1 < Rank (TCell b x v) m → (y : Verdict) → v d ≡ y
+        → Near (TCell b x v) m (W.verdict_steps below y)
+        (record { words = k.words; seats = slice_set k.seats t (W.looked p s (q m) below d y) })
+    near_looked m at b x v say d here l verdict.NoRow e = absurd
+        (no_row m at (say.1 ∙ ap (λ o. settle b x (on_cell say.0 v o) below) here ∙ ap (λ z. settle b x z below) e))
     near_looked m at b x v say d here l (verdict.Goes g) e = inl refl
     near_looked m at b x v say d here l (verdict.Fails z) e = inl refl
     near_looked m at b x v say d here l (verdict.Sets new g) e = go (deep (state.Running g below))
@@ -162,23 +184,37 @@ module _ (p : CastScript) (pok : IsTypedProgram p) (s : Settings) (rs : List Ty)
         one : Rank (TCell b x v) (Seen d) ≡ 1
         one = ap (seen_rank d) here ∙ ap one_or_two (cell_self d)
 
-        go : (z : Bool) → Near (TCell b x v) m z (record { words = k.words; seats = slice_set k.seats t (if z then moves s (q m) Quick (state.Failing ends.DepthLimit) else turns (q m) (Seen d)) })
+        go : (z : Bool)
+            → Near (TCell b x v) m z
+            (record {
+              words = k.words;
+              seats = slice_set k.seats t (if z then moves s (q m) Quick (state.Failing ends.DepthLimit)
+                  else turns (q m) (Seen d));
+            })
         go true = inl refl
         go false = turned (TCell b x v) m (Seen d) refl (subst (λ j. j < Rank (TCell b x v) m) (sym one) l)
 
-    near_word : (m : Micro) → At m → (b : ℕ) (x : List ℕ) (v : Cell → Verdict) → TopSays p c2 item g0 below (TCell b x v) → 1 < Rank (TCell b x v) m → (o : Option Cell) → cell_at h b x ≡ o → Near (TCell b x v) m (W.look_steps below v o) (record { words = k.words; seats = slice_set k.seats t (W.looked_at p s (q m) below v o) })
+    near_word : (m : Micro) → At m → (b : ℕ) (x : List ℕ) (v : Cell → Verdict) → TopSays p c2 item g0 below (TCell b x v)
+        → 1 < Rank (TCell b x v) m → (o : Option Cell) → cell_at h b x ≡ o
+        → Near (TCell b x v) m (W.look_steps below v o)
+        (record { words = k.words; seats = slice_set k.seats t (W.looked_at p s (q m) below v o) })
     near_word m at b x v say l None e = none_some _ (sym e ∙ (cell_there b x say.2).1)
     near_word m at b x v say l (Some d) e = near_looked m at b x v say d e l (v d) refl
 
-    near_exchange : (d : Cell) → At (Seen d) → (b : ℕ) (x : List ℕ) (v : Cell → Verdict) → TopSays p c2 item g0 below (TCell b x v) → (new : Cell) → (o : Option Cell) → cell_at h b x ≡ o → NearAns (TCell b x v) (Seen d) (W.exchange s k.words b x d new o)
+    near_exchange : (d : Cell) → At (Seen d) → (b : ℕ) (x : List ℕ) (v : Cell → Verdict) → TopSays p c2 item g0 below (TCell b x v)
+        → (new : Cell) → (o : Option Cell) → cell_at h b x ≡ o → NearAns (TCell b x v) (Seen d) (W.exchange s k.words b x d new o)
     near_exchange d at b x v say new None e = none_some _ (sym e ∙ (cell_there b x say.2).1)
     near_exchange d at b x v say new (Some now) e = go (same_cell d now) refl
       where
-        go : (z : Bool) → same_cell d now ≡ z → NearAns (TCell b x v) (Seen d) (if z then (record k.words { heap = set_cell h b x new }, W.Kept) else (k.words, W.Differs (Some now)))
+        go : (z : Bool) → same_cell d now ≡ z
+            → NearAns (TCell b x v) (Seen d) (if z then (record k.words { heap = set_cell h b x new }, W.Kept)
+            else (k.words, W.Differs (Some now)))
         go true z = inl refl
-        go false z = near_looked (Seen d) at b x v say now e (subst (λ j. 1 < j) (sym (ap (seen_rank d) e ∙ ap one_or_two z)) (omega arith)) (v now) refl
+        go false z = near_looked (Seen d) at b x v say now e
+            (subst (λ j. 1 < j) (sym (ap (seen_rank d) e ∙ ap one_or_two z)) (omega arith)) (v now) refl
 
-    near_armed : (d : Cell) → At (Seen d) → (b : ℕ) (x : List ℕ) (v : Cell → Verdict) → TopSays p c2 item g0 below (TCell b x v) → ArmedTop d below (TCell b x v) → NearAct (TCell b x v) (Seen d) (W.armed p s t (q (Seen d)) below b x d (v d))
+    near_armed : (d : Cell) → At (Seen d) → (b : ℕ) (x : List ℕ) (v : Cell → Verdict) → TopSays p c2 item g0 below (TCell b x v)
+        → ArmedTop d below (TCell b x v) → NearAct (TCell b x v) (Seen d) (W.armed p s t (q (Seen d)) below b x d (v d))
     near_armed d at b x v say w =
         subst (λ y. NearAct (TCell b x v) (Seen d) (W.armed p s t (q (Seen d)) below b x d y)) (sym w.2)
         (subst (λ z. NearAct (TCell b x v) (Seen d) (if z then NRest else NWants (W.AExchange b x d w.0))) (sym w.3)
@@ -186,16 +222,19 @@ module _ (p : CastScript) (pok : IsTypedProgram p) (s : Settings) (rs : List Ty)
 
     -- ---- local steps, and a look at the end
 
-    near_own : (m : Micro) → At m → act p c2 item g0 below ≡ lift (own p s item g0 below) → (o : Option State) → own p s item g0 below ≡ o → NearAct TLocal m (W.goes_own p s t (q m) o)
+    near_own : (m : Micro) → At m → act p c2 item g0 below ≡ lift (own p s item g0 below) → (o : Option State) → own p s item g0 below ≡ o
+        → NearAct TLocal m (W.goes_own p s t (q m) o)
     near_own m at e None z = absurd (no_row m at (e ∙ ap lift z))
     near_own m at e (Some st) z = inl refl
 
-    near_went : (m : Micro) → At m → act p c2 item g0 below ≡ lift (own p s item g0 below) → (o : Option State) → own p s item g0 below ≡ o → is_some o ≡ true
+    near_went : (m : Micro) → At m → act p c2 item g0 below ≡ lift (own p s item g0 below) → (o : Option State) → own p s item g0 below ≡ o
+        → is_some o ≡ true
     near_went m at e None z = absurd (no_row m at (e ∙ ap lift z))
     near_went m at e (Some st) z = refl
 
     -- no end is there
-    no_end : (T : Top) (m : Micro) → NearAns T m (k.words, W.Ends None (words_of (k.words).lines)) → (e : Option End) → (k.words).end ≡ e → NearAns T m (k.words, W.Ends e (words_of (k.words).lines))
+    no_end : (T : Top) (m : Micro) → NearAns T m (k.words, W.Ends None (words_of (k.words).lines)) → (e : Option End) → (k.words).end ≡ e
+        → NearAns T m (k.words, W.Ends e (words_of (k.words).lines))
     no_end T m x None e = x
     no_end T m x (Some z) e = none_some _ (sym none ∙ e)
 
@@ -210,21 +249,31 @@ module _ (p : CastScript) (pok : IsTypedProgram p) (s : Settings) (rs : List Ty)
     near_draw : (c : ℕ) (o : Object) (g : Frame) → NearAns (TNew o g) (Count c) (W.apply s k.words (W.ADraw c (W.unfilled t o)))
     near_draw c o g = go (nat_eq c (heap_size h)) refl (nat_le (heap_size h + size (W.unfilled t o)) s.heap)
       where
-        go : (b : Bool) → nat_eq c (heap_size h) ≡ b → (r : Bool) → NearAns (TNew o g) (Count c) (if b then (if r then (record k.words { heap = h ++ W.unfilled t o ∷ [] }, W.Drawn (heap_size h)) else (k.words, W.Full)) else (k.words, W.Counts (heap_size h)))
+        go : (b : Bool) → nat_eq c (heap_size h) ≡ b → (r : Bool)
+            → NearAns (TNew o g) (Count c)
+            (if b then (if r then (record k.words { heap = h ++ W.unfilled t o ∷ [] }, W.Drawn (heap_size h)) else (k.words, W.Full))
+            else (k.words, W.Counts (heap_size h)))
         go true z true = inl refl
         go true z false = inl refl
         go false z r = turned (TNew o g) (Count c) (Count (heap_size h)) refl (two_differ c (heap_size h) z)
 
-    near_print : (c : ℕ) (m : Micro) (args : List Val) (g : Frame) → (nat_eq c (words_of (k.words).lines) ≡ false → one_or_two (nat_eq (words_of (k.words).lines) (words_of (k.words).lines)) < Rank (TPrint args g) m) → (o : Option End) → (k.words).end ≡ o → NearAns (TPrint args g) m (W.draw_print s k.words c args o)
+    near_print : (c : ℕ) (m : Micro) (args : List Val) (g : Frame)
+        → (nat_eq c (words_of (k.words).lines) ≡ false → one_or_two (nat_eq (words_of (k.words).lines) (words_of (k.words).lines)) < Rank
+        (TPrint args g) m) → (o : Option End) → (k.words).end ≡ o → NearAns (TPrint args g) m (W.draw_print s k.words c args o)
     near_print c m args g l (Some z) e = none_some _ (sym none ∙ e)
-    near_print c m args g l None e = go (nat_eq c (words_of (k.words).lines)) refl (nat_le (words_of (k.words).lines + (length args + 1)) s.print)
+    near_print c m args g l None e = go (nat_eq c (words_of (k.words).lines)) refl
+        (nat_le (words_of (k.words).lines + (length args + 1)) s.print)
       where
-        go : (b : Bool) → nat_eq c (words_of (k.words).lines) ≡ b → (r : Bool) → NearAns (TPrint args g) m (if b then (if r then (record k.words { lines = (k.words).lines ++ args ∷ [] }, W.Drawn (words_of (k.words).lines)) else (k.words, W.Full)) else (k.words, W.Ends None (words_of (k.words).lines)))
+        go : (b : Bool) → nat_eq c (words_of (k.words).lines) ≡ b → (r : Bool)
+            → NearAns (TPrint args g) m
+            (if b then (if r then (record k.words { lines = (k.words).lines ++ args ∷ [] }, W.Drawn (words_of (k.words).lines))
+            else (k.words, W.Full)) else (k.words, W.Ends None (words_of (k.words).lines)))
         go true z true = inl refl
         go true z false = inl refl
         go false z r = turned (TPrint args g) m (Count (words_of (k.words).lines)) refl (l z)
 
-    near_begin : (c : ℕ) (x : List ℕ) (j : ℕ) (d : CastFunction) (M : Ty) (args : List Val) (g : Frame) → NearAct (TBegin x j d M args g) (Count c) (NBegins c j M args (fresh_seat d M args))
+    near_begin : (c : ℕ) (x : List ℕ) (j : ℕ) (d : CastFunction) (M : Ty) (args : List Val) (g : Frame)
+        → NearAct (TBegin x j d M args g) (Count c) (NBegins c j M args (fresh_seat d M args))
     near_begin c x j d M args g = go (nat_eq c (length k.seats)) refl (nat_le 256 (length k.seats))
       where
         T : Top
@@ -234,8 +283,18 @@ module _ (p : CastScript) (pok : IsTypedProgram p) (s : Settings) (rs : List Ty)
         back z = resume_top p s (q (Count c)) (Count c) item g0 below (TBegin x j d M args g) z
 
         go : (b : Bool) → nat_eq c (length k.seats) ≡ b → (r : Bool) →
-            Near (TBegin x j d M args g) (Count c) (W.top_steps p s item g0 below (TBegin x j d M args g) (if b then (if r then W.Full else W.Drawn (length k.seats)) else W.Counts (length k.seats)))
-            (if b then (if r then answered s k t (resume_top p s (q (Count c)) (Count c) item g0 below (TBegin x j d M args g)) (k.words, W.Full) else record { words = k.words; seats = slice_set k.seats t (resume_top p s (q (Count c)) (Count c) item g0 below (TBegin x j d M args g) (W.Drawn (length k.seats))) ++ fresh_seat d M args ∷ [] }) else answered s k t (resume_top p s (q (Count c)) (Count c) item g0 below (TBegin x j d M args g)) (k.words, W.Counts (length k.seats)))
+            Near (TBegin x j d M args g) (Count c)
+            (W.top_steps p s item g0 below (TBegin x j d M args g) (if b then (if r then W.Full else W.Drawn (length k.seats))
+            else W.Counts (length k.seats)))
+            (if b then (if r then answered s k t (resume_top p s (q (Count c)) (Count c) item g0 below (TBegin x j d M args g))
+            (k.words, W.Full)
+            else record {
+              words = k.words;
+              seats = slice_set k.seats t (resume_top p s (q (Count c)) (Count c) item g0 below (TBegin x j d M args g)
+                  (W.Drawn (length k.seats))) ++ fresh_seat d M args ∷ [];
+            })
+            else answered s k t (resume_top p s (q (Count c)) (Count c) item g0 below (TBegin x j d M args g))
+            (k.words, W.Counts (length k.seats)))
         go true z true = inl refl
         go true z false = inl refl
         go false z r = turned (TBegin x j d M args g) (Count c) (Count (length k.seats)) refl (two_differ c (length k.seats) z)
@@ -246,32 +305,43 @@ module _ (p : CastScript) (pok : IsTypedProgram p) (s : Settings) (rs : List Ty)
     near_done c (Some z) e = none_some _ (sym none ∙ e)
     near_done c None e = go (nat_eq c (words_of (k.words).lines)) refl
       where
-        go : (b : Bool) → nat_eq c (words_of (k.words).lines) ≡ b → NearAns TLeave (Seeing [] c) (if b then (record k.words { end = Some ends.Done }, W.Kept) else (k.words, W.Ends None (words_of (k.words).lines)))
+        go : (b : Bool) → nat_eq c (words_of (k.words).lines) ≡ b
+            → NearAns TLeave (Seeing [] c) (if b then (record k.words { end = Some ends.Done }, W.Kept)
+            else (k.words, W.Ends None (words_of (k.words).lines)))
         go true z = inl refl
         go false z = turned TLeave (Seeing [] c) (Seeing [] (words_of (k.words).lines)) refl (two_differ c (words_of (k.words).lines) z)
 
-    near_leaves : (c : ℕ) → At (Seeing [] c) → ((d : ℕ → Option Val) → Finishes (fin k.seats) d → SeatBy p rs d t h (typ a) (state.Running f below) (Seeing [] c)) → TopSays p c2 item g0 below TLeave → (o : Option Ty) → f.asked ≡ o → NearAct TLeave (Seeing [] c) (W.leaves p s t (q (Seeing [] c)) g0 below c o)
+    near_leaves : (c : ℕ) → At (Seeing [] c)
+        → ((d : ℕ → Option Val) → Finishes (fin k.seats) d → SeatBy p rs d t h (typ a) (state.Running f below) (Seeing [] c))
+        → TopSays p c2 item g0 below TLeave → (o : Option Ty) → f.asked ≡ o
+        → NearAct TLeave (Seeing [] c) (W.leaves p s t (q (Seeing [] c)) g0 below c o)
     near_leaves c at pl say None e = near_done c (k.words).end refl
     near_leaves c at pl say (Some T) e = go f.values refl below
       where
         go : (vs : List Val) → f.values ≡ vs → (bl : List Frame) → NearAct TLeave (Seeing [] c) (W.leaves_to p s t (q (Seeing [] c)) vs bl)
         go [] ev bl =
             absurd (no_row (Seeing [] c) at
-            (say ∙ ap (λ b. if b then leave_with f.values f.asked below else outcome.Waits) (left_all p pok s rs k ok t a f below n item is top c at pl)
+            (say ∙ ap (λ b. if b then leave_with f.values f.asked below else outcome.Waits)
+            (left_all p pok s rs k ok t a f below n item is top c at pl)
             ∙ ap (λ o. leave_with f.values o below) e ∙ ap (λ vs. leave_with vs (Some T) below) ev))
         go (v ∷ vs) ev [] = inl refl
         go (v ∷ vs) ev (g ∷ bl) = inl refl
 
-    near_saw : (u : ℕ) (left : List ℕ) (c : ℕ) (v : Val) (o : Option Val) → o ≡ Some v → NearAns TLeave (Seeing (u ∷ left) c) (k.words, W.Result o)
+    near_saw : (u : ℕ) (left : List ℕ) (c : ℕ) (v : Val) (o : Option Val) → o ≡ Some v
+        → NearAns TLeave (Seeing (u ∷ left) c) (k.words, W.Result o)
     near_saw u left c v None e = none_some _ e
-    near_saw u left c v (Some w) e = turned TLeave (Seeing (u ∷ left) c) (Seeing left c) refl (let l = leave_low c (words_of (k.words).lines) left in omega (arith, l))
+    near_saw u left c v (Some w) e = turned TLeave (Seeing (u ∷ left) c) (Seeing left c) refl
+        (let l = leave_low c (words_of (k.words).lines) left in omega (arith, l))
 
-    near_sees : (m : Micro) → Rank TLeave m ≡ 4 + length f.started → W.sees p s (q m) m g0 (words_of (k.words).lines) ≡ q (Seeing f.started (words_of (k.words).lines)) → NearAns TLeave m (k.words, W.Ends (k.words).end (words_of (k.words).lines))
+    near_sees : (m : Micro) → Rank TLeave m ≡ 4 + length f.started
+        → W.sees p s (q m) m g0 (words_of (k.words).lines) ≡ q (Seeing f.started (words_of (k.words).lines))
+        → NearAns TLeave m (k.words, W.Ends (k.words).end (words_of (k.words).lines))
     near_sees m e z =
         no_end TLeave m
         (subst (λ r. Near TLeave m false (record { words = k.words; seats = slice_set k.seats t r })) (sym z)
         (turned TLeave m (Seeing f.started (words_of (k.words).lines)) refl
-        (subst (λ j. leave_rank (words_of (k.words).lines) (words_of (k.words).lines) f.started < j) (sym e) (let l = leave_low (words_of (k.words).lines) (words_of (k.words).lines) f.started in omega (arith, l)))))
+        (subst (λ j. leave_rank (words_of (k.words).lines) (words_of (k.words).lines) f.started < j) (sym e)
+        (let l = leave_low (words_of (k.words).lines) (words_of (k.words).lines) f.started in omega (arith, l)))))
         (k.words).end refl
 
     near_join : (m : Micro) (u : ℕ) (v : Val) (o : Option Val) → o ≡ Some v → NearAns (TJoin u) m (k.words, W.Result o)
@@ -283,21 +353,27 @@ module _ (p : CastScript) (pok : IsTypedProgram p) (s : Settings) (rs : List Ty)
     shallow_act T m true N e x = absurd (false≢true (sym e))
     shallow_act T m false N e x = x
 
-    near_top : (m : Micro) → At m → ((d : ℕ → Option Val) → Finishes (fin k.seats) d → SeatBy p rs d t h (typ a) (state.Running f below) m) → (T : Top) → TopSays p c2 item g0 below T → IsReady (fin k.seats) f T → ((d : Cell) → m ≡ Seen d → ArmedTop d below T) → NearAct T m (next_top p s t (q m) m item g0 below T)
+    near_top : (m : Micro) → At m → ((d : ℕ → Option Val) → Finishes (fin k.seats) d → SeatBy p rs d t h (typ a) (state.Running f below) m)
+        → (T : Top) → TopSays p c2 item g0 below T → IsReady (fin k.seats) f T → ((d : Cell) → m ≡ Seen d → ArmedTop d below T)
+        → NearAct T m (next_top p s t (q m) m item g0 below T)
     near_top m at pl TLocal say rd ar = near_own m at say (own p s item g0 below) refl
     near_top m at pl (TMiss (Some j)) say rd ar = inl refl
     near_top m at pl (TMiss None) say rd ar = absurd (missing m at say)
       where
         missing : (m : Micro) → At m → TopSays p c2 item g0 below (TMiss None) → ⊥
-        missing m at say = false≢true (sym (Rattle.word_machine.proofs.Lively.miss_goes p pok s rs k ok t a f below n item is top m at i None say) ∙ refl)
+        missing m at say = false≢true
+            (sym (Rattle.word_machine.proofs.Lively.miss_goes p pok s rs k ok t a f below n item is top m at i None say) ∙ refl)
     near_top (Seen d) at pl (TCell b x v) say rd ar = near_armed d at b x v say (ar d refl)
     near_top m at pl (TCell b x v) say rd ar = near_word m at b x v say (omega arith) (cell_at h b x) refl
-    near_top m at pl (TBlind b x new g) say rd ar = on_test (deep (state.Running g below)) _ _ (λ r. NearAct (TBlind b x new g) m r) (λ e. inl refl) (λ e. inl refl)
+    near_top m at pl (TBlind b x new g) say rd ar = on_test (deep (state.Running g below)) _ _ (λ r. NearAct (TBlind b x new g) m r)
+        (λ e. inl refl) (λ e. inl refl)
     near_top (Count c) at pl (TNew o g) say rd ar =
         shallow_act (TNew o g) (Count c) (deep (state.Running (has (val.Nil ∷ g.values) g) below)) (NWants (W.ADraw c (W.unfilled t o)))
-        (let l = say.2 in fits_on p pok s rs k ok t a f below n item is top (frame_items (has (val.Nil ∷ g.values) g)) (omega (arith, l)) sh)
+        (let l = say.2 in fits_on p pok s rs k ok t a f below n item is top (frame_items (has (val.Nil ∷ g.values) g))
+        (omega (arith, l)) sh)
         (near_draw c o g)
-    near_top m at pl (TNew o g) say rd ar = no_end (TNew o g) m (turned (TNew o g) m (Count 0) refl (low (nat_eq 0 (heap_size h)) (length f.started))) (k.words).end refl
+    near_top m at pl (TNew o g) say rd ar = no_end (TNew o g) m
+        (turned (TNew o g) m (Count 0) refl (low (nat_eq 0 (heap_size h)) (length f.started))) (k.words).end refl
     near_top (Count c) at pl (TPrint args g) say rd ar =
         shallow_act (TPrint args g) (Count c) (deep (state.Running g below)) (NWants (W.APrint c args))
         (let l = say.1 in fits_on p pok s rs k ok t a f below n item is top (frame_items g) (omega (arith, l)) sh)
@@ -305,7 +381,8 @@ module _ (p : CastScript) (pok : IsTypedProgram p) (s : Settings) (rs : List Ty)
     near_top m at pl (TPrint args g) say rd ar =
         shallow_act (TPrint args g) m (deep (state.Running g below)) (NWants (W.APrint 0 args))
         (let l = say.1 in fits_on p pok s rs k ok t a f below n item is top (frame_items g) (omega (arith, l)) sh)
-        (near_print 0 m args g (λ e. low (nat_eq (words_of (k.words).lines) (words_of (k.words).lines)) (length f.started)) (k.words).end refl)
+        (near_print 0 m args g (λ e. low (nat_eq (words_of (k.words).lines) (words_of (k.words).lines)) (length f.started))
+        (k.words).end refl)
     near_top m at pl TLook say rd ar = no_end TLook m (inl (near_went m at say (own p s item g0 below) refl)) (k.words).end refl
     near_top (Seeing [] c) at pl TLeave say rd ar = near_leaves c at pl say f.asked refl
     near_top (Seeing (u ∷ left) c) at pl TLeave say rd ar =
@@ -313,28 +390,37 @@ module _ (p : CastScript) (pok : IsTypedProgram p) (s : Settings) (rs : List Ty)
         let v = all_at (fin k.seats) w.0 u left (subst (λ l. all_fin (fin k.seats) l ≡ true) w.1 rd) in
         near_saw u left c v.0 (W.result_at (k.words).results u) ((ok.counts).results u ∙ v.1)
     near_top m at pl TLeave say rd ar = near_sees m refl refl
-    near_top (Count c) at pl (TJoin u) say rd ar = near_join (Count c) u rd.0 (W.result_at (k.words).results u) ((ok.counts).results u ∙ rd.1)
-    near_top m at pl (TJoin u) say rd ar = no_end (TJoin u) m (turned (TJoin u) m (Count (words_of (k.words).lines)) refl (omega arith)) (k.words).end refl
+    near_top (Count c) at pl (TJoin u) say rd ar = near_join (Count c) u rd.0 (W.result_at (k.words).results u)
+        ((ok.counts).results u ∙ rd.1)
+    near_top m at pl (TJoin u) say rd ar = no_end (TJoin u) m (turned (TJoin u) m (Count (words_of (k.words).lines)) refl (omega arith))
+        (k.words).end refl
     near_top (Count c) at pl (TBegin x j d M args g) say rd ar =
-        shallow_act (TBegin x j d M args g) (Count c) (deep (state.Running (put_begun g x 0) below)) (NBegins c j M args (fresh_seat d M args))
-        (let l = say.2 in let w = length-update g.handles x (Some 0) in fits_on p pok s rs k ok t a f below n item is top (frame_items (put_begun g x 0)) (omega (arith, l, w)) sh)
+        shallow_act (TBegin x j d M args g) (Count c) (deep (state.Running (put_begun g x 0) below))
+        (NBegins c j M args (fresh_seat d M args))
+        (let l = say.2 in let w = length-update g.handles x (Some 0) in fits_on p pok s rs k ok t a f below n item is top
+        (frame_items (put_begun g x 0)) (omega (arith, l, w)) sh)
         (near_begin c x j d M args g)
-    near_top m at pl (TBegin x j d M args g) say rd ar = no_end (TBegin x j d M args g) m (turned (TBegin x j d M args g) m (Count 1) refl (low (nat_eq 1 (length k.seats)) (length f.started))) (k.words).end refl
+    near_top m at pl (TBegin x j d M args g) say rd ar = no_end (TBegin x j d M args g) m
+        (turned (TBegin x j d M args g) m (Count 1) refl (low (nat_eq 1 (length k.seats)) (length f.started))) (k.words).end refl
 
     -- ---- a step of the calculus says that the waits are over
 
-    ready : (m : Micro) → At m → (c : Configuration) → step_of p (stands s k) t ≡ Some c → (T : Top) → TopSays p c1 item g0 below T → IsReady (fin k.seats) f T
+    ready : (m : Micro) → At m → (c : Configuration) → step_of p (stands s k) t ≡ Some c → (T : Top) → TopSays p c1 item g0 below T
+        → IsReady (fin k.seats) f T
     ready m at c e TLeave say = go (all_finished c1.threads f.started) refl
       where
         go : (b : Bool) → all_finished c1.threads f.started ≡ b → all_fin (fin k.seats) f.started ≡ true
         go true z = sym (all_same p pok s rs k ok t a f below n item is top m at f.started) ∙ z
         go false z =
-            none_some _ (sym (stepped p pok s rs k ok t a f below n m at item is top none outcome.Waits (say ∙ ap (λ b. if b then leave_with f.values f.asked below else outcome.Waits) z)) ∙ e)
+            none_some _
+            (sym (stepped p pok s rs k ok t a f below n m at item is top none outcome.Waits
+            (say ∙ ap (λ b. if b then leave_with f.values f.asked below else outcome.Waits) z)) ∙ e)
     ready m at c e (TJoin u) say = go (finished c1.threads u) refl
       where
         go : (o : Option Val) → finished c1.threads u ≡ o → (v : Val) × (fin k.seats u ≡ Some v)
         go (Some v) z = (v, sym (fin_same p pok s rs k ok t a f below n item is top m at u) ∙ z)
-        go None z = none_some _ (sym (stepped p pok s rs k ok t a f below n m at item is top none outcome.Waits (say ∙ ap (λ o. join_of o g0 below) z)) ∙ e)
+        go None z = none_some _
+            (sym (stepped p pok s rs k ok t a f below n m at item is top none outcome.Waits (say ∙ ap (λ o. join_of o g0 below) z)) ∙ e)
     ready m at c e TLocal say = tt
     ready m at c e (TMiss j) say = tt
     ready m at c e (TCell b x v) say = tt
@@ -351,47 +437,69 @@ module _ (p : CastScript) (pok : IsTypedProgram p) (s : Settings) (rs : List Ty)
   Nearer r b k' = (b ≡ true) ⊎ (rank p k' t < r)
 
   -- a rank behind a tick
-  rank_after : (w : Words) (old x : Seat) → slice_get k.seats t ≡ Some old → rank p (record { words = w; seats = slice_set k.seats t x }) t ≡ seat_rank p w (length k.seats) x.micro x.state
+  rank_after : (w : Words) (old x : Seat) → slice_get k.seats t ≡ Some old → rank p (record { words = w; seats = slice_set k.seats t x }) t
+      ≡ seat_rank p w (length k.seats) x.micro x.state
   rank_after w old x at =
       ap (λ o. rank_in p (record { words = w; seats = slice_set k.seats t x }) o) (set_here k.seats t x old at)
       ∙ ap (λ l. seat_rank p w l x.micro x.state) (length-slice_set k.seats t x)
 
   -- a rank by the top item
-  rank_is : (f : Frame) (below : List Frame) (item : Work) (is : List Work) → f.work ≡ item ∷ is → (m : Micro) → is_filling m ≡ false → (w : Words) (made : ℕ) → seat_rank p w made m (state.Running f below) ≡ top_rank w made (record f { work = is }) (top_of p item (record f { work = is })) m
+  rank_is : (f : Frame) (below : List Frame) (item : Work) (is : List Work) → f.work ≡ item ∷ is → (m : Micro) → is_filling m ≡ false
+      → (w : Words) (made : ℕ) → seat_rank p w made m (state.Running f below) ≡ top_rank w made (record f { work = is })
+      (top_of p item (record f { work = is })) m
   rank_is f below item is top Quick e w made = ap (λ z. work_rank p w made Quick f z) top
   rank_is f below item is top (Seen d) e w made = ap (λ z. work_rank p w made (Seen d) f z) top
   rank_is f below item is top (Count c) e w made = ap (λ z. work_rank p w made (Count c) f z) top
   rank_is f below item is top (Seeing l c) e w made = ap (λ z. work_rank p w made (Seeing l c) f z) top
   rank_is f below item is top (Filling b l) e w made = absurd (false≢true (sym e))
 
-  running : (c : Configuration) → step_of p (stands s k) t ≡ Some c → (a : Option Ty) (f : Frame) (below : List Frame) (n : ℕ) (m : Micro) → is_filling m ≡ false → slice_get k.seats t ≡ Some (record { asked = a; state = state.Running f below; steps = n; micro = m }) → IsWellTypedState p rs t h (typ a) (state.Running f below) → ((d : ℕ → Option Val) → Finishes (fin k.seats) d → SeatBy p rs d t h (typ a) (state.Running f below) m) → deep (state.Running f below) ≡ false → ((d : Cell) → m ≡ Seen d → ArmedWork p d f below f.work) → (w : List Work) → f.work ≡ w →
-      Nearer (seat_rank p k.words (length k.seats) m (state.Running f below)) (W.next_steps p s k.words (length k.seats) (W.work_steps p s f below w) (W.next_work p s t (record { asked = a; state = state.Running f below; steps = n; micro = m }) m f below w)) (acted s k t (W.resume_work p s (record { asked = a; state = state.Running f below; steps = n; micro = m }) m f below w) (W.next_work p s t (record { asked = a; state = state.Running f below; steps = n; micro = m }) m f below w))
-  running c e a f below n m nf at i pl sh ar [] top = absurd ((subst (λ w. IsWellTypedTop p (around (i.0).scope f.asked rs t) h [] w f.values (i.0).types) top (i.0).work).1)
+  running : (c : Configuration) → step_of p (stands s k) t ≡ Some c → (a : Option Ty) (f : Frame) (below : List Frame) (n : ℕ) (m : Micro)
+      → is_filling m ≡ false → slice_get k.seats t ≡ Some (record { asked = a; state = state.Running f below; steps = n; micro = m })
+      → IsWellTypedState p rs t h (typ a) (state.Running f below)
+      → ((d : ℕ → Option Val) → Finishes (fin k.seats) d → SeatBy p rs d t h (typ a) (state.Running f below) m)
+      → deep (state.Running f below) ≡ false → ((d : Cell) → m ≡ Seen d → ArmedWork p d f below f.work) → (w : List Work) → f.work ≡ w →
+      Nearer (seat_rank p k.words (length k.seats) m (state.Running f below))
+      (W.next_steps p s k.words (length k.seats) (W.work_steps p s f below w)
+      (W.next_work p s t (record { asked = a; state = state.Running f below; steps = n; micro = m }) m f below w))
+      (acted s k t (W.resume_work p s (record { asked = a; state = state.Running f below; steps = n; micro = m }) m f below w)
+      (W.next_work p s t (record { asked = a; state = state.Running f below; steps = n; micro = m }) m f below w))
+  running c e a f below n m nf at i pl sh ar [] top = absurd
+      ((subst (λ w. IsWellTypedTop p (around (i.0).scope f.asked rs t) h [] w f.values (i.0).types) top (i.0).work).1)
   running c e a f below n m nf at i pl sh ar (item ∷ is) top =
       let g0 : Frame = record f { work = is } in
       let T = top_of p item g0 in
       ⊎_elim inl
       (λ z. inr
       (subst (λ k'. rank p k' t < seat_rank p k.words (length k.seats) m (state.Running f below)) (sym z.2)
-      (subst (λ j. j < seat_rank p k.words (length k.seats) m (state.Running f below)) (sym (rank_after k.words (record { asked = a; state = state.Running f below; steps = n; micro = m }) (record { asked = a; state = state.Running f below; steps = n; micro = z.0 }) at ∙ rank_is f below item is top z.0 z.1 k.words (length k.seats)))
+      (subst (λ j. j < seat_rank p k.words (length k.seats) m (state.Running f below))
+      (sym (rank_after k.words (record { asked = a; state = state.Running f below; steps = n; micro = m })
+      (record { asked = a; state = state.Running f below; steps = n; micro = z.0 }) at ∙ rank_is f below item is top z.0 z.1 k.words
+      (length k.seats)))
       (subst (λ j. top_rank k.words (length k.seats) g0 T z.0 < j) (sym (rank_is f below item is top m nf k.words (length k.seats))) z.3))))
       (near_top a f below n item is top i sh m at pl T (says p (typed p pok s rs k ok t) g0 below item)
       (ready a f below n item is top i sh m at c e T (says p (there p pok s rs k ok t) g0 below item))
       (λ d y. subst (λ w. ArmedWork p d f below w) top (ar d y)))
 
   abbrev Fails : Option Ty → End → ℕ → Micro → ℕ → Words × Answer → Type 0
-  Fails a x n m r y = Nearer r (W.end_steps p s y.1) (answered s k t (W.resume_end p s (record { asked = a; state = state.Failing x; steps = n; micro = m })) y)
+  Fails a x n m r y = Nearer r (W.end_steps p s y.1)
+      (answered s k t (W.resume_end p s (record { asked = a; state = state.Failing x; steps = n; micro = m })) y)
 
-  failing : (a : Option Ty) (x : End) (n : ℕ) (m : Micro) → is_filling m ≡ false → slice_get k.seats t ≡ Some (record { asked = a; state = state.Failing x; steps = n; micro = m }) → (o : Option End) → (k.words).end ≡ o →
+  failing : (a : Option Ty) (x : End) (n : ℕ) (m : Micro) → is_filling m ≡ false
+      → slice_get k.seats t ≡ Some (record { asked = a; state = state.Failing x; steps = n; micro = m }) → (o : Option End)
+      → (k.words).end ≡ o →
       Fails a x n m (one_or_two (nat_eq (guess m) (words_of (k.words).lines))) (W.record_end s k.words (guess m) x o)
   failing a x n m nf at (Some z) e = none_some _ (sym none ∙ e)
   failing a x n m nf at None e = go (nat_eq (guess m) (words_of (k.words).lines)) refl
     where
       go : (b : Bool) → nat_eq (guess m) (words_of (k.words).lines) ≡ b →
-          Fails a x n m (one_or_two b) (if b then (record k.words { end = Some x }, W.Kept) else (k.words, W.Ends None (words_of (k.words).lines)))
+          Fails a x n m (one_or_two b) (if b then (record k.words { end = Some x }, W.Kept)
+          else (k.words, W.Ends None (words_of (k.words).lines)))
       go true z = inl refl
       go false z = inr
-          (subst (λ j. j < 2) (sym (rank_after k.words (record { asked = a; state = state.Failing x; steps = n; micro = m }) (record { asked = a; state = state.Failing x; steps = n; micro = Count (words_of (k.words).lines) }) at ∙ ap one_or_two (nat_eq-refl (words_of (k.words).lines)))) (omega arith))
+          (subst (λ j. j < 2)
+          (sym (rank_after k.words (record { asked = a; state = state.Failing x; steps = n; micro = m })
+          (record { asked = a; state = state.Failing x; steps = n; micro = Count (words_of (k.words).lines) }) at
+          ∙ ap one_or_two (nat_eq-refl (words_of (k.words).lines)))) (omega arith))
 
   -- behind its fills a thread is at its base
   quick_low : (w : Words) (made : ℕ) (st : State) → seat_rank p w made Quick st < base_rank st + 1
@@ -420,10 +528,14 @@ module _ (p : CastScript) (pok : IsTypedProgram p) (s : Settings) (rs : List Ty)
   quick_low w made (state.Finished v) = omega arith
   quick_low w made state.Stopped = omega arith
 
-  filled : (a : Option Ty) (st : State) (n b left : ℕ) → slice_get k.seats t ≡ Some (record { asked = a; state = st; steps = n; micro = Filling b left }) → nat_eq left 0 ≡ false → rank p (tick_seat p s k t (Some (record { asked = a; state = st; steps = n; micro = Filling b left }))) t < base_rank st + left
+  filled : (a : Option Ty) (st : State) (n b left : ℕ)
+      → slice_get k.seats t ≡ Some (record { asked = a; state = st; steps = n; micro = Filling b left }) → nat_eq left 0 ≡ false
+      → rank p (tick_seat p s k t (Some (record { asked = a; state = st; steps = n; micro = Filling b left }))) t < base_rank st + left
   filled a st n b left at e =
       let w = (W.apply s k.words (W.AFill b)).0 in
-      subst (λ j. j < base_rank st + left) (sym (rank_after w (record { asked = a; state = st; steps = n; micro = Filling b left }) (record { asked = a; state = st; steps = n; micro = filling b (left - 1) }) at)) (go w left e)
+      subst (λ j. j < base_rank st + left)
+      (sym (rank_after w (record { asked = a; state = st; steps = n; micro = Filling b left })
+      (record { asked = a; state = st; steps = n; micro = filling b (left - 1) }) at)) (go w left e)
     where
       go : (w : Words) (l : ℕ) → nat_eq l 0 ≡ false → seat_rank p w (length k.seats) (filling b (l - 1)) st < base_rank st + l
       go w zero y = absurd (false≢true (sym y))
@@ -447,10 +559,14 @@ module _ (p : CastScript) (pok : IsTypedProgram p) (s : Settings) (rs : List Ty)
       gone (x ∷ l) zero i = none_some _ (sym i)
       gone (x ∷ l) (suc u) i = gone l u i
 
-  no_step : (a : Option Ty) (st : State) (n : ℕ) (m : Micro) → slice_get k.seats t ≡ Some (record { asked = a; state = st; steps = n; micro = m }) → rests_still st ≡ true → step_of p (stands s k) t ≡ None
+  no_step : (a : Option Ty) (st : State) (n : ℕ) (m : Micro)
+      → slice_get k.seats t ≡ Some (record { asked = a; state = st; steps = n; micro = m }) → rests_still st ≡ true
+      → step_of p (stands s k) t ≡ None
   unfolding step_of
-  no_step a (state.Finished v) n m at e = ap (λ o. step_at p t o (stands s k)) (threads_get k.seats t (record { asked = a; state = state.Finished v; steps = n; micro = m }) at)
-  no_step a state.Stopped n m at e = ap (λ o. step_at p t o (stands s k)) (threads_get k.seats t (record { asked = a; state = state.Stopped; steps = n; micro = m }) at)
+  no_step a (state.Finished v) n m at e = ap (λ o. step_at p t o (stands s k))
+      (threads_get k.seats t (record { asked = a; state = state.Finished v; steps = n; micro = m }) at)
+  no_step a state.Stopped n m at e = ap (λ o. step_at p t o (stands s k))
+      (threads_get k.seats t (record { asked = a; state = state.Stopped; steps = n; micro = m }) at)
   no_step a (state.Running f below) n m at e = absurd (false≢true e)
   no_step a (state.Failing x) n m at e = absurd (false≢true e)
 
@@ -461,18 +577,27 @@ module _ (p : CastScript) (pok : IsTypedProgram p) (s : Settings) (rs : List Ty)
   left_more rs' R st b left i = ap (λ n. nat_eq n 0) (sym i.waits) ∙ i.hides
 
   abbrev Seat_near : Option Ty → State → ℕ → Micro → Type 0
-  Seat_near a st n m = Nearer (seat_rank p k.words (length k.seats) m st) (W.seat_steps p s k t (Some (record { asked = a; state = st; steps = n; micro = m }))) (tick_seat p s k t (Some (record { asked = a; state = st; steps = n; micro = m })))
+  Seat_near a st n m = Nearer (seat_rank p k.words (length k.seats) m st)
+      (W.seat_steps p s k t (Some (record { asked = a; state = st; steps = n; micro = m })))
+      (tick_seat p s k t (Some (record { asked = a; state = st; steps = n; micro = m })))
 
-  seat_near : (c : Configuration) → step_of p (stands s k) t ≡ Some c → (a : Option Ty) (st : State) (n : ℕ) (m : Micro) → slice_get k.seats t ≡ Some (record { asked = a; state = st; steps = n; micro = m }) → SeatBy p rs (fin k.seats) t h (typ a) st m → Lively p (record { asked = a; state = st; steps = n; micro = m }) → Seat_near a st n m
+  seat_near : (c : Configuration) → step_of p (stands s k) t ≡ Some c → (a : Option Ty) (st : State) (n : ℕ) (m : Micro)
+      → slice_get k.seats t ≡ Some (record { asked = a; state = st; steps = n; micro = m }) → SeatBy p rs (fin k.seats) t h (typ a) st m
+      → Lively p (record { asked = a; state = st; steps = n; micro = m }) → Seat_near a st n m
   seat_near c e a st n (Filling b left) at i l = inr (filled a st n b left at (left_more rs (typ a) st b left i))
-  seat_near c e a (state.Running f below) n Quick at i l = running c e a f below n Quick refl at i (λ d y. i) l.0 (λ d z. no_seen Quick refl d z) f.work refl
-  seat_near c e a (state.Running f below) n (Seen x) at i l = running c e a f below n (Seen x) refl at i (λ d y. i) l.0 (λ d z. subst (λ y. ArmedWork p y f below f.work) (ap (cell_in x) z) l.1) f.work refl
+  seat_near c e a (state.Running f below) n Quick at i l = running c e a f below n Quick refl at i (λ d y. i) l.0
+      (λ d z. no_seen Quick refl d z) f.work refl
+  seat_near c e a (state.Running f below) n (Seen x) at i l = running c e a f below n (Seen x) refl at i (λ d y. i) l.0
+      (λ d z. subst (λ y. ArmedWork p y f below f.work) (ap (cell_in x) z) l.1) f.work refl
     where
       cell_in : Cell → Micro → Cell
       cell_in z (Seen y) = y
       cell_in z m = z
-  seat_near c e a (state.Running f below) n (Count x) at i l = running c e a f below n (Count x) refl at i (λ d y. i) l.0 (λ d z. no_seen (Count x) refl d z) f.work refl
-  seat_near c e a (state.Running f below) n (Seeing left x) at i l = running c e a f below n (Seeing left x) refl at i.0 (λ d y. (i.0, seen_grows (fin k.seats) d y (state.Running f below) left i.1)) l.0 (λ d z. no_seen (Seeing left x) refl d z) f.work refl
+  seat_near c e a (state.Running f below) n (Count x) at i l = running c e a f below n (Count x) refl at i (λ d y. i) l.0
+      (λ d z. no_seen (Count x) refl d z) f.work refl
+  seat_near c e a (state.Running f below) n (Seeing left x) at i l = running c e a f below n (Seeing left x) refl at i.0
+      (λ d y. (i.0, seen_grows (fin k.seats) d y (state.Running f below) left i.1)) l.0
+      (λ d z. no_seen (Seeing left x) refl d z) f.work refl
   seat_near c e a (state.Failing x) n Quick at i l = failing a x n Quick refl at (k.words).end refl
   seat_near c e a (state.Failing x) n (Seen d) at i l = failing a x n (Seen d) refl at (k.words).end refl
   seat_near c e a (state.Failing x) n (Count j) at i l = failing a x n (Count j) refl at (k.words).end refl
@@ -480,11 +605,13 @@ module _ (p : CastScript) (pok : IsTypedProgram p) (s : Settings) (rs : List Ty)
   seat_near c e a (state.Finished v) n m at i l = none_some _ (sym (no_step a (state.Finished v) n m at refl) ∙ e)
   seat_near c e a state.Stopped n m at i l = none_some _ (sym (no_step a state.Stopped n m at refl) ∙ e)
 
-  at_near : (c : Configuration) → step_of p (stands s k) t ≡ Some c → AllLively p small s k.seats → (o : Option Seat) → slice_get k.seats t ≡ o → Nearer (rank_in p k o) (W.seat_steps p s k t o) (tick_seat p s k t o)
+  at_near : (c : Configuration) → step_of p (stands s k) t ≡ Some c → AllLively p small s k.seats → (o : Option Seat)
+      → slice_get k.seats t ≡ o → Nearer (rank_in p k o) (W.seat_steps p s k t o) (tick_seat p s k t o)
   at_near c e all None at = none_some _ (sym (no_seat at) ∙ e)
   at_near c e all (Some x) at = seat_near c e x.asked x.state x.steps x.micro at (ok.seats t x at) (all t x at)
 
-  near : (c : Configuration) → step_of p (stands s k) t ≡ Some c → AllLively p small s k.seats → Nearer (rank p k t) (tick_steps p s k t) (tick p s k t)
+  near : (c : Configuration) → step_of p (stands s k) t ≡ Some c → AllLively p small s k.seats
+      → Nearer (rank p k t) (tick_steps p s k t) (tick p s k t)
   near c e all = at_near c e all (slice_get k.seats t) refl
 
 -- ---- a pick
@@ -496,43 +623,57 @@ module _ (p : CastScript) (pok : IsTypedProgram p) (small : IsSmall p) (s : Sett
   pub solo_more : (m : ℕ) (k : Core) → tick_steps p s k t ≡ false → solo p s (suc m) k t ≡ solo p s m (tick p s k t) t
   solo_more m k e = ap (λ b. if b then tick p s k t else solo p s m (tick p s k t) t) e
 
-  matches : (rs : List Ty) (k : Core) → CoreOk p rs k → (k.words).end ≡ None → (b : Bool) → tick_steps p s k t ≡ b → Matches p s k t b (tick p s k t)
+  matches : (rs : List Ty) (k : Core) → CoreOk p rs k → (k.words).end ≡ None → (b : Bool) → tick_steps p s k t ≡ b
+      → Matches p s k t b (tick p s k t)
   matches rs k ok none b e = subst (λ z. Matches p s k t z (tick p s k t)) e ((tick_ok p pok s rs k ok t).sim none)
 
   -- what is known of a configuration with a smaller rank
   abbrev Smaller : Core → Configuration → ℕ → Type 0
   Smaller k c zero = Unit {0}
-  Smaller k c (suc j) = (k.words).end ≡ None → AllLively p small s k.seats → step_of p (stands s k) t ≡ Some c → rank p k t ≤ j → stands s (solo p s (suc j) k t) ≡ c
+  Smaller k c (suc j) = (k.words).end ≡ None → AllLively p small s k.seats → step_of p (stands s k) t ≡ Some c → rank p k t ≤ j
+      → stands s (solo p s (suc j) k t) ≡ c
 
-  one_tick : (n : ℕ) (rs : List Ty) (k : Core) → CoreOk p rs k → (k.words).end ≡ None → AllLively p small s k.seats → (c : Configuration) → step_of p (stands s k) t ≡ Some c → rank p k t ≤ n → Smaller (tick p s k t) c n → (b : Bool) → tick_steps p s k t ≡ b → stands s (solo p s (suc n) k t) ≡ c
+  one_tick : (n : ℕ) (rs : List Ty) (k : Core) → CoreOk p rs k → (k.words).end ≡ None → AllLively p small s k.seats → (c : Configuration)
+      → step_of p (stands s k) t ≡ Some c → rank p k t ≤ n → Smaller (tick p s k t) c n → (b : Bool) → tick_steps p s k t ≡ b
+      → stands s (solo p s (suc n) k t) ≡ c
   one_tick n rs k ok none all c e l next true z = ap (stands s) (solo_first n k z) ∙ some_is (sym (matches rs k ok none true z) ∙ e)
-  one_tick n rs k ok none all c e l next false z = ⊎_elim (λ y. absurd (false≢true (sym z ∙ y))) (λ y. further n l y next) (near p pok s rs k ok none t small c e all)
+  one_tick n rs k ok none all c e l next false z = ⊎_elim (λ y. absurd (false≢true (sym z ∙ y))) (λ y. further n l y next)
+      (near p pok s rs k ok none t small c e all)
     where
-      further : (n : ℕ) → rank p k t ≤ n → rank p (tick p s k t) t < rank p k t → Smaller (tick p s k t) c n → stands s (solo p s (suc n) k t) ≡ c
+      further : (n : ℕ) → rank p k t ≤ n → rank p (tick p s k t) t < rank p k t → Smaller (tick p s k t) c n
+          → stands s (solo p s (suc n) k t) ≡ c
       further zero l y next = absurd (omega (arith, l, y))
       further (suc j) l y next =
           let same = matches rs k ok none false z in
-          ap (stands s) (solo_more (suc j) k z) ∙ next (ap (λ (x : Configuration). x.end) same ∙ none) (tick_lively p small s k t all) (ap (λ x. step_of p x t) same ∙ e) (omega (arith, l, y))
+          ap (stands s) (solo_more (suc j) k z) ∙ next (ap (λ (x : Configuration). x.end) same ∙ none) (tick_lively p small s k t all)
+          (ap (λ x. step_of p x t) same ∙ e) (omega (arith, l, y))
 
-  steps_to : (n : ℕ) (rs : List Ty) (k : Core) → CoreOk p rs k → (k.words).end ≡ None → AllLively p small s k.seats → (c : Configuration) → step_of p (stands s k) t ≡ Some c → rank p k t ≤ n → stands s (solo p s (suc n) k t) ≡ c
+  steps_to : (n : ℕ) (rs : List Ty) (k : Core) → CoreOk p rs k → (k.words).end ≡ None → AllLively p small s k.seats → (c : Configuration)
+      → step_of p (stands s k) t ≡ Some c → rank p k t ≤ n → stands s (solo p s (suc n) k t) ≡ c
   steps_to zero rs k ok none all c e l = one_tick zero rs k ok none all c e l tt (tick_steps p s k t) refl
   steps_to (suc n) rs k ok none all c e l =
       let g = tick_ok p pok s rs k ok t in
-      one_tick (suc n) rs k ok none all c e l (λ none' all' e' l'. steps_to n g.results (tick p s k t) g.ok none' all' c e' l') (tick_steps p s k t) refl
+      one_tick (suc n) rs k ok none all c e l (λ none' all' e' l'. steps_to n g.results (tick p s k t) g.ok none' all' c e' l')
+      (tick_steps p s k t) refl
 
-  stay_tick : (n : ℕ) (rs : List Ty) (k : Core) → CoreOk p rs k → (k.words).end ≡ None → step_of p (stands s k) t ≡ None → (((tick p s k t).words).end ≡ None → step_of p (stands s (tick p s k t)) t ≡ None → stands s (solo p s n (tick p s k t) t) ≡ stands s (tick p s k t)) → (b : Bool) → tick_steps p s k t ≡ b → stands s (solo p s (suc n) k t) ≡ stands s k
+  stay_tick : (n : ℕ) (rs : List Ty) (k : Core) → CoreOk p rs k → (k.words).end ≡ None → step_of p (stands s k) t ≡ None
+      → (((tick p s k t).words).end ≡ None → step_of p (stands s (tick p s k t)) t ≡ None
+      → stands s (solo p s n (tick p s k t) t) ≡ stands s (tick p s k t)) → (b : Bool) → tick_steps p s k t ≡ b
+      → stands s (solo p s (suc n) k t) ≡ stands s k
   stay_tick n rs k ok none e next true z = none_some _ (sym e ∙ matches rs k ok none true z)
   stay_tick n rs k ok none e next false z =
       let same = matches rs k ok none false z in
       ap (stands s) (solo_more n k z) ∙ next (ap (λ (x : Configuration). x.end) same ∙ none) (ap (λ x. step_of p x t) same ∙ e) ∙ same
 
-  stays : (n : ℕ) (rs : List Ty) (k : Core) → CoreOk p rs k → (k.words).end ≡ None → step_of p (stands s k) t ≡ None → stands s (solo p s n k t) ≡ stands s k
+  stays : (n : ℕ) (rs : List Ty) (k : Core) → CoreOk p rs k → (k.words).end ≡ None → step_of p (stands s k) t ≡ None
+      → stands s (solo p s n k t) ≡ stands s k
   stays zero rs k ok none e = refl
   stays (suc n) rs k ok none e =
       let g = tick_ok p pok s rs k ok t in
       stay_tick n rs k ok none e (λ none' e'. stays n g.results (tick p s k t) g.ok none' e') (tick_steps p s k t) refl
 
-  pub pick_to : (rs : List Ty) (k : Core) → CoreOk p rs k → (k.words).end ≡ None → AllLively p small s k.seats → (n : ℕ) → rank p k t ≤ n → stands s (solo p s (suc n) k t) ≡ picked p (stands s k) t
+  pub pick_to : (rs : List Ty) (k : Core) → CoreOk p rs k → (k.words).end ≡ None → AllLively p small s k.seats → (n : ℕ) → rank p k t ≤ n
+      → stands s (solo p s (suc n) k t) ≡ picked p (stands s k) t
   pick_to rs k ok none all n l = go (step_of p (stands s k) t) refl
     where
       go : (o : Option Configuration) → step_of p (stands s k) t ≡ o → stands s (solo p s (suc n) k t) ≡ unwrap_or o (stands s k)
@@ -540,7 +681,8 @@ module _ (p : CastScript) (pok : IsTypedProgram p) (small : IsSmall p) (s : Sett
       go (Some c) e = steps_to n rs k ok none all c e l
 
   -- what is true of all that is reached
-  pub solo_ok : (n : ℕ) (rs : List Ty) (k : Core) → CoreOk p rs k → AllLively p small s k.seats → ((rs' : List Ty) × CoreOk p rs' (solo p s n k t)) × AllLively p small s (solo p s n k t).seats
+  pub solo_ok : (n : ℕ) (rs : List Ty) (k : Core) → CoreOk p rs k → AllLively p small s k.seats
+      → ((rs' : List Ty) × CoreOk p rs' (solo p s n k t)) × AllLively p small s (solo p s n k t).seats
   solo_ok zero rs k ok all = ((rs, ok), all)
   solo_ok (suc n) rs k ok all =
       let g = tick_ok p pok s rs k ok t in
@@ -551,7 +693,8 @@ module _ (p : CastScript) (pok : IsTypedProgram p) (small : IsSmall p) (s : Sett
 pub picks_by_words : PicksByWords
 picks_by_words p pok small s ticks none t n l =
     let c = core_after p pok s (dyn ∷ []) (core_start p) (start_core p pok s) ticks in
-    pick_to p pok small s t c.0 (after_ticks p s (core_start p) ticks) c.1 none (ticks_lively p small s (core_start p) ticks (main_lively p small)) n l
+    pick_to p pok small s t c.0 (after_ticks p s (core_start p) ticks) c.1 none
+    (ticks_lively p small s (core_start p) ticks (main_lively p small)) n l
 
 -- ---- the order of a seed
 
@@ -560,11 +703,14 @@ other_runs w f (work.Join u) is e = absurd (false≢true (sym e))
 other_runs w f work.Leave is e = absurd (false≢true (sym e))
 other_runs w f i is e = refl
 
-module _ (p : CastScript) (pok : IsTypedProgram p) (s : Settings) (rs : List Ty) (k : Core) (ok : CoreOk p rs k) (none : (k.words).end ≡ None) (t : ℕ) where
+module _ (p : CastScript) (pok : IsTypedProgram p) (s : Settings) (rs : List Ty) (k : Core) (ok : CoreOk p rs k)
+    (none : (k.words).end ≡ None) (t : ℕ) where
   abbrev Runs : State → Type 0
   Runs st = is_runnable p (stands s k) t ≡ state_runs k.words st
 
-  module _ (a : Option Ty) (f : Frame) (below : List Frame) (n : ℕ) (m : Micro) (at : slice_get k.seats t ≡ Some (record { asked = a; state = state.Running f below; steps = n; micro = m })) (item : Work) (is : List Work) (top : f.work ≡ item ∷ is) where
+  module _ (a : Option Ty) (f : Frame) (below : List Frame) (n : ℕ) (m : Micro)
+      (at : slice_get k.seats t ≡ Some (record { asked = a; state = state.Running f below; steps = n; micro = m })) (item : Work)
+      (is : List Work) (top : f.work ≡ item ∷ is) where
     abbrev cc : Configuration
     cc = there p pok s rs k ok t
 
@@ -572,7 +718,8 @@ module _ (p : CastScript) (pok : IsTypedProgram p) (s : Settings) (rs : List Ty)
     moves_by (outcome.Moves d st) = true
     moves_by o = false
 
-    moves_some : (o : Outcome) → is_some (moved t (thread_of (record { asked = a; state = state.Running f below; steps = n; micro = m })) o cc) ≡ moves_by o
+    moves_some : (o : Outcome)
+        → is_some (moved t (thread_of (record { asked = a; state = state.Running f below; steps = n; micro = m })) o cc) ≡ moves_by o
     moves_some outcome.NoRow = refl
     moves_some outcome.Waits = refl
     moves_some (outcome.Moves d st) = refl
@@ -590,11 +737,13 @@ module _ (p : CastScript) (pok : IsTypedProgram p) (s : Settings) (rs : List Ty)
     row_ok = shown_row p pok s rs k ok t a f below n m at item is top
 
     done_same : (u : ℕ) → finished cc.threads u ≡ W.result_at (k.words).results u
-    done_same u = fin_out p pok s rs k ok t u (record { asked = a; state = state.Running f below; steps = n; micro = m }) at refl ∙ sym ((ok.counts).results u)
+    done_same u = fin_out p pok s rs k ok t u (record { asked = a; state = state.Running f below; steps = n; micro = m }) at refl
+        ∙ sym ((ok.counts).results u)
 
     all_done : (us : List ℕ) → all_finished cc.threads us ≡ all_results (k.words).results us
     all_done [] = refl
-    all_done (u ∷ us) = ap (λ o. is_some o && all_finished cc.threads us) (done_same u) ∙ ap (λ b. is_some (W.result_at (k.words).results u) && b) (all_done us)
+    all_done (u ∷ us) = ap (λ o. is_some o && all_finished cc.threads us) (done_same u)
+        ∙ ap (λ b. is_some (W.result_at (k.words).results u) && b) (all_done us)
 
     item_runs : (i : Work) → item ≡ i → is_runnable p (stands s k) t ≡ work_runs k.words f (i ∷ is)
     item_runs i e = go (is_wait (i ∷ is)) refl i e
@@ -603,50 +752,68 @@ module _ (p : CastScript) (pok : IsTypedProgram p) (s : Settings) (rs : List Ty)
         joins u None = refl
         joins u (Some v) = refl
 
-        leaves : (vs : List Val) (o : Option Ty) (bl : List Frame) → ActOk p rs t cc.threads cc.heap (typ a) (item ∷ is) (leave_with vs o bl) → moves_by (leave_with vs o bl) ≡ true
+        leaves : (vs : List Val) (o : Option Ty) (bl : List Frame)
+            → ActOk p rs t cc.threads cc.heap (typ a) (item ∷ is) (leave_with vs o bl) → moves_by (leave_with vs o bl) ≡ true
         leaves vs None bl i = refl
         leaves [] (Some T) bl i = absurd i
         leaves (v ∷ vs) (Some T) [] i = refl
         leaves (v ∷ vs) (Some T) (g ∷ bl) i = refl
 
-        left : (b : Bool) → act p cc item (record f { work = is }) below ≡ (if b then leave_with f.values f.asked below else outcome.Waits) → is_runnable p (stands s k) t ≡ b
-        left true e = runs_by (leave_with f.values f.asked below) e ∙ leaves f.values f.asked below (subst (λ o. ActOk p rs t cc.threads cc.heap (typ a) (item ∷ is) o) e row_ok)
+        left : (b : Bool) → act p cc item (record f { work = is }) below ≡ (if b then leave_with f.values f.asked below else outcome.Waits)
+            → is_runnable p (stands s k) t ≡ b
+        left true e = runs_by (leave_with f.values f.asked below) e
+            ∙ leaves f.values f.asked below (subst (λ o. ActOk p rs t cc.threads cc.heap (typ a) (item ∷ is) o) e row_ok)
         left false e = runs_by outcome.Waits e
 
         go : (b : Bool) → is_wait (i ∷ is) ≡ b → (j : Work) → item ≡ j → is_runnable p (stands s k) t ≡ work_runs k.words f (j ∷ is)
         go b w (work.Join u) z =
-            let e : act p cc item (record f { work = is }) below ≡ join_of (W.result_at (k.words).results u) (record f { work = is }) below = ap (λ x. act p cc x (record f { work = is }) below) z ∙ ap (λ o. join_of o (record f { work = is }) below) (done_same u) in
+            let e : act p cc item (record f { work = is }) below ≡ join_of (W.result_at (k.words).results u)
+            (record f { work = is }) below = ap (λ x. act p cc x (record f { work = is }) below) z
+            ∙ ap (λ o. join_of o (record f { work = is }) below) (done_same u) in
             runs_by _ e ∙ joins u (W.result_at (k.words).results u)
         go b w work.Leave z =
-            left (all_results (k.words).results f.started) (ap (λ x. act p cc x (record f { work = is }) below) z ∙ ap (λ b'. if b' then leave_with f.values f.asked below else outcome.Waits) (all_done f.started))
+            left (all_results (k.words).results f.started) (ap (λ x. act p cc x (record f { work = is }) below) z
+            ∙ ap (λ b'. if b' then leave_with f.values f.asked below else outcome.Waits) (all_done f.started))
         go b w j z = other j z refl
           where
             other : (j : Work) → item ≡ j → is_wait (j ∷ is) ≡ false → is_runnable p (stands s k) t ≡ work_runs k.words f (j ∷ is)
             other j z w =
-                runs_by _ refl ∙ goes (act p cc item (record f { work = is }) below) (subst (λ y. is_wait (y ∷ is) ≡ false) (sym z) w) row_ok ∙ sym (other_runs k.words f j is w)
+                runs_by _ refl ∙ goes (act p cc item (record f { work = is }) below)
+                (subst (λ y. is_wait (y ∷ is) ≡ false) (sym z) w) row_ok ∙ sym (other_runs k.words f j is w)
 
-  work_is : (a : Option Ty) (f : Frame) (below : List Frame) (n : ℕ) (m : Micro) → slice_get k.seats t ≡ Some (record { asked = a; state = state.Running f below; steps = n; micro = m }) → (w : List Work) → f.work ≡ w → is_runnable p (stands s k) t ≡ work_runs k.words f w
+  work_is : (a : Option Ty) (f : Frame) (below : List Frame) (n : ℕ) (m : Micro)
+      → slice_get k.seats t ≡ Some (record { asked = a; state = state.Running f below; steps = n; micro = m }) → (w : List Work)
+      → f.work ≡ w → is_runnable p (stands s k) t ≡ work_runs k.words f w
   work_is a f below n m at [] e =
       let i = ok.states t (record { asked = a; state = state.Running f below; steps = n; micro = m }) at in
-      absurd ((subst (λ w. IsWellTypedTop p (around (i.0).scope f.asked rs t) (W.reveal (k.words).heap) [] w f.values (i.0).types) e (i.0).work).1)
+      absurd ((subst (λ w. IsWellTypedTop p (around (i.0).scope f.asked rs t) (W.reveal (k.words).heap) [] w f.values (i.0).types) e
+      (i.0).work).1)
   work_is a f below n m at (item ∷ is) e = item_runs a f below n m at item is e item refl
 
-  failing_runs : (a : Option Ty) (x : End) (n : ℕ) (m : Micro) → slice_get k.seats t ≡ Some (record { asked = a; state = state.Failing x; steps = n; micro = m }) → is_runnable p (stands s k) t ≡ true
+  failing_runs : (a : Option Ty) (x : End) (n : ℕ) (m : Micro)
+      → slice_get k.seats t ≡ Some (record { asked = a; state = state.Failing x; steps = n; micro = m })
+      → is_runnable p (stands s k) t ≡ true
   unfolding step_of
-  failing_runs a x n m at = ap (λ o. is_some (step_at p t o (stands s k))) (threads_get k.seats t (record { asked = a; state = state.Failing x; steps = n; micro = m }) at)
+  failing_runs a x n m at = ap (λ o. is_some (step_at p t o (stands s k)))
+      (threads_get k.seats t (record { asked = a; state = state.Failing x; steps = n; micro = m }) at)
 
-  seat_is : (a : Option Ty) (st : State) (n : ℕ) (m : Micro) → slice_get k.seats t ≡ Some (record { asked = a; state = st; steps = n; micro = m }) → (small : IsSmall p) → is_runnable p (stands s k) t ≡ state_runs k.words st
+  seat_is : (a : Option Ty) (st : State) (n : ℕ) (m : Micro)
+      → slice_get k.seats t ≡ Some (record { asked = a; state = st; steps = n; micro = m }) → (small : IsSmall p)
+      → is_runnable p (stands s k) t ≡ state_runs k.words st
   seat_is a (state.Running f below) n m at small = work_is a f below n m at f.work refl
   seat_is a (state.Failing x) n m at small = failing_runs a x n m at
   seat_is a (state.Finished v) n m at small = ap is_some (no_step p pok s rs k ok none t small a (state.Finished v) n m at refl)
   seat_is a state.Stopped n m at small = ap is_some (no_step p pok s rs k ok none t small a state.Stopped n m at refl)
 
 -- the runnable threads are those that the words say
-runs_same : (p : CastScript) (c : Configuration) (w : Words) (qs : List Seat) (n : ℕ) → ((i : ℕ) (q : Seat) → slice_get qs i ≡ Some q → is_runnable p c (n + i) ≡ state_runs w q.state) → runs_from w n qs ≡ runnable_from p c n (W.threads_of qs)
+runs_same : (p : CastScript) (c : Configuration) (w : Words) (qs : List Seat) (n : ℕ)
+    → ((i : ℕ) (q : Seat) → slice_get qs i ≡ Some q → is_runnable p c (n + i) ≡ state_runs w q.state)
+    → runs_from w n qs ≡ runnable_from p c n (W.threads_of qs)
 runs_same p c w [] n same = refl
 runs_same p c w (q ∷ qs) n same =
     ap (λ b. if b then n ∷ runs_from w (n + 1) qs else runs_from w (n + 1) qs) (sym (same 0 q refl) ∙ ap (is_runnable p c) (plus n))
-    ∙ ap (λ l. if is_runnable p c n then n ∷ l else l) (runs_same p c w qs (n + 1) (λ i r e. ap (is_runnable p c) (plus_one n i) ∙ same (suc i) r e))
+    ∙ ap (λ l. if is_runnable p c n then n ∷ l else l)
+    (runs_same p c w qs (n + 1) (λ i r e. ap (is_runnable p c) (plus_one n i) ∙ same (suc i) r e))
   where
     plus : (a : ℕ) → a + 0 ≡ a
     plus a = omega arith
@@ -655,24 +822,30 @@ runs_same p c w (q ∷ qs) n same =
     plus_one a b = omega arith
 
 module _ (p : CastScript) (pok : IsTypedProgram p) (small : IsSmall p) (s : Settings) where
-  pub runs_right : (rs : List Ty) (k : Core) → CoreOk p rs k → (k.words).end ≡ None → runs_from k.words 0 k.seats ≡ runnable_threads p (stands s k)
-  runs_right rs k ok none = runs_same p (stands s k) k.words k.seats 0 (λ i q e. ap (is_runnable p (stands s k)) (zero_plus i) ∙ seat_is p pok s rs k ok none i q.asked q.state q.steps q.micro e small)
+  pub runs_right : (rs : List Ty) (k : Core) → CoreOk p rs k → (k.words).end ≡ None
+      → runs_from k.words 0 k.seats ≡ runnable_threads p (stands s k)
+  runs_right rs k ok none = runs_same p (stands s k) k.words k.seats 0 (λ i q e. ap (is_runnable p (stands s k)) (zero_plus i)
+      ∙ seat_is p pok s rs k ok none i q.asked q.state q.steps q.micro e small)
     where
       zero_plus : (i : ℕ) → 0 + i ≡ i
       zero_plus i = omega arith
 
-  thread_right : (rs : List Ty) (k : Core) → CoreOk p rs k → (k.words).end ≡ None → (seed : ℕ) → word_thread k seed ≡ seeded_thread p (stands s k) seed
+  thread_right : (rs : List Ty) (k : Core) → CoreOk p rs k → (k.words).end ≡ None → (seed : ℕ)
+      → word_thread k seed ≡ seeded_thread p (stands s k) seed
   thread_right rs k ok none seed = ap (λ l. slice_get l (Rattle.cast_machine.specs.Step.pick seed (length l))) (runs_right rs k ok none)
 
-  pick_right : (rs : List Ty) (k : Core) → CoreOk p rs k → (k.words).end ≡ None → AllLively p small s k.seats → (o : Option ℕ) → stands s (word_pick p s k o) ≡ picked_at p (stands s k) o
+  pick_right : (rs : List Ty) (k : Core) → CoreOk p rs k → (k.words).end ≡ None → AllLively p small s k.seats → (o : Option ℕ)
+      → stands s (word_pick p s k o) ≡ picked_at p (stands s k) o
   pick_right rs k ok none all None = refl
   pick_right rs k ok none all (Some t) = pick_to p pok small s t rs k ok none all (rank p k t) (omega arith)
 
-  pick_ok : (rs : List Ty) (k : Core) → CoreOk p rs k → AllLively p small s k.seats → (o : Option ℕ) → ((rs' : List Ty) × CoreOk p rs' (word_pick p s k o)) × AllLively p small s (word_pick p s k o).seats
+  pick_ok : (rs : List Ty) (k : Core) → CoreOk p rs k → AllLively p small s k.seats → (o : Option ℕ)
+      → ((rs' : List Ty) × CoreOk p rs' (word_pick p s k o)) × AllLively p small s (word_pick p s k o).seats
   pick_ok rs k ok all None = ((rs, ok), all)
   pick_ok rs k ok all (Some t) = solo_ok p pok small s t (suc (rank p k t)) rs k ok all
 
-  seeded_to : (n seed : ℕ) (rs : List Ty) (k : Core) → CoreOk p rs k → AllLively p small s k.seats → stands s (word_seeded p s n seed k) ≡ seeded p n seed (stands s k)
+  seeded_to : (n seed : ℕ) (rs : List Ty) (k : Core) → CoreOk p rs k → AllLively p small s k.seats
+      → stands s (word_seeded p s n seed k) ≡ seeded p n seed (stands s k)
   seeded_to zero seed rs k ok all = sym (seeded-zero p seed (stands s k))
   seeded_to (suc n) seed rs k ok all =
       let o = word_thread k (next_seed seed) in
@@ -680,12 +853,16 @@ module _ (p : CastScript) (pok : IsTypedProgram p) (small : IsSmall p) (s : Sett
       let rest = seeded_to n (next_seed seed) (next.0).0 (word_pick p s k o) (next.0).1 next.1 in
       go (k.words).end refl rest
     where
-      go : (e : Option End) → (k.words).end ≡ e → stands s (word_seeded p s n (next_seed seed) (word_pick p s k (word_thread k (next_seed seed)))) ≡ seeded p n (next_seed seed) (stands s (word_pick p s k (word_thread k (next_seed seed)))) →
-          stands s (if is_some e then k else word_seeded p s n (next_seed seed) (word_pick p s k (word_thread k (next_seed seed)))) ≡ seeded p (suc n) seed (stands s k)
+      go : (e : Option End) → (k.words).end ≡ e
+          → stands s (word_seeded p s n (next_seed seed) (word_pick p s k (word_thread k (next_seed seed)))) ≡ seeded p n (next_seed seed)
+          (stands s (word_pick p s k (word_thread k (next_seed seed)))) →
+          stands s (if is_some e then k else word_seeded p s n (next_seed seed) (word_pick p s k (word_thread k (next_seed seed))))
+          ≡ seeded p (suc n) seed (stands s k)
       go (Some x) e rest = sym (seeded-ended p (suc n) seed (stands s k) (ap is_some e))
       go None e rest =
           rest
-          ∙ ap (seeded p n (next_seed seed)) (pick_right rs k ok e all (word_thread k (next_seed seed)) ∙ ap (picked_at p (stands s k)) (thread_right rs k ok e (next_seed seed)))
+          ∙ ap (seeded p n (next_seed seed)) (pick_right rs k ok e all (word_thread k (next_seed seed))
+          ∙ ap (picked_at p (stands s k)) (thread_right rs k ok e (next_seed seed)))
           ∙ sym (seeded-suc p n seed (stands s k) e)
 
 pub seeded_by_words : SeededByWords

@@ -16,9 +16,11 @@ pub record Arrives (p : CastScript) (s : Settings) (k : Hosts) : Type 0 where
   -- main, claimed while its header is 0
   pub main : (h : ℕ) → k.hosts h ≡ Claims 0 HEmpty → (k.slots 0).header ≡ HEmpty → (acts_of p s 1 k h).hosts h ≡ Runs 0 (main_seat p)
   -- another thread, claimed with the word of its header: the claim and a load for each argument
-  pub thread : (h t g : ℕ) (m : Ty) → k.hosts h ≡ Claims t (HFunc g m) → (k.slots t).header ≡ HFunc g m → (q : Seat) × ((acts_of p s (1 + arity m) k h).hosts h ≡ Runs t q)
+  pub thread : (h t g : ℕ) (m : Ty) → k.hosts h ≡ Claims t (HFunc g m) → (k.slots t).header ≡ HFunc g m
+      → (q : Seat) × ((acts_of p s (1 + arity m) k h).hosts h ≡ Runs t q)
   -- a starter: a store for each argument that is left, and the header's
-  pub starter : (h t u g : ℕ) (q : Seat) (m : Ty) (left : List Val) → k.hosts h ≡ Starts t q u g m left → (acts_of p s (1 + length left) k h).hosts h ≡ Runs t q
+  pub starter : (h t u g : ℕ) (q : Seat) (m : Ty) (left : List Val) → k.hosts h ≡ Starts t q u g m left
+      → (acts_of p s (1 + length left) k h).hosts h ≡ Runs t q
 
 abbrev pub HostsArrive : Type 0
 HostsArrive = (p : CastScript) → IsTypedProgram p → (s : Settings) (events : List Event) → Arrives p s (after_events p s hosts_start events)

@@ -1,5 +1,6 @@
 -- Every list of events of the word machine follows the calculus.
-use Rattle.std.specs.Prelude.{◌≡◌, ℕ, zero, suc, Bool, true, false, List, [], ◌∷◌, ◌++◌, Option, Some, None, is_some, if◌then◌else◌, slice_get}
+use Rattle.std.specs.Prelude.{◌≡◌, ℕ, zero, suc, Bool, true, false, List, [], ◌∷◌, ◌++◌, Option, Some, None, is_some, if◌then◌else◌}
+use Rattle.std.specs.Prelude.{slice_get}
 use Rattle.mono_syntax.specs.declared.cast.CastScript.{CastScript}
 use Rattle.mono_tree.specs.TypedPrograms.{IsTypedProgram}
 use Rattle.cast_machine.specs.declared.data.Cell.{Cell}
@@ -45,7 +46,8 @@ tick_picks p s k t = if is_some (k.words).end then [] else (if tick_steps p s k 
 
 abbrev pub event_picks : CastScript → Settings → ℕ → Core → ℕ → List ℕ
 event_picks p s zero k t = tick_picks p s k t
-event_picks p s (suc n) k t = if local_seat p s t (slice_get k.seats t) then tick_picks p s k t ++ event_picks p s n (tick p s k t) t else tick_picks p s k t
+event_picks p s (suc n) k t = if local_seat p s t (slice_get k.seats t) then tick_picks p s k t ++ event_picks p s n (tick p s k t) t
+    else tick_picks p s k t
 
 abbrev pub is_filling : Micro → Bool
 is_filling (Filling b left) = true
@@ -65,11 +67,13 @@ pub record Follows (p : CastScript) (s : Settings) (k : Core) (picks : List ℕ)
   -- which is well typed, also behind the end
   pub heap : IsWellTypedHeap (stands s k).heap
   pub own : IsHeapOf p (stands s k).heap
-  pub threads : (t : ℕ) (th : Thread) → slice_get (stands s k).threads t ≡ Some th → IsWellTypedState p (results_of (stands s k).threads) t (stands s k).heap (result_type th) th.state
+  pub threads : (t : ℕ) (th : Thread) → slice_get (stands s k).threads t ≡ Some th
+      → IsWellTypedState p (results_of (stands s k).threads) t (stands s k).heap (result_type th) th.state
   -- each filled field's value has its recorded type
   pub typed : (a : ℕ) (x : List ℕ) (d : Cell) → cell_at (k.words).heap a x ≡ Some d → HasType (k.words).heap d.value d.ty
   pub ready : (t : ℕ) (q : Seat) (f : Frame) (below : List Frame) (c a : ℕ) (x : List ℕ) (to : Ty) (r : Ready) (rest : List Work) →
-      slice_get k.seats t ≡ Some q → is_filling q.micro ≡ false → q.state ≡ state.Running f below → f.work ≡ work.Obligation c a x to (Some r) ∷ rest →
+      slice_get k.seats t ≡ Some q → is_filling q.micro ≡ false → q.state ≡ state.Running f below
+      → f.work ≡ work.Obligation c a x to (Some r) ∷ rest →
       HasType (k.words).heap r.value r.ty
 
 abbrev pub OnlyOf : ℕ → List ℕ → Type 0
@@ -91,7 +95,10 @@ empty_results zero = []
 empty_results (suc n) = None ∷ empty_results n
 
 abbrev pub core_start : CastScript → Core
-core_start p = record { words = record { heap = []; lines = []; results = empty_results 256; end = None }; seats = record { asked = None; state = state.Running (main_frame p) []; steps = 0; micro = Quick } ∷ [] }
+core_start p = record {
+  words = record { heap = []; lines = []; results = empty_results 256; end = None };
+  seats = record { asked = None; state = state.Running (main_frame p) []; steps = 0; micro = Quick } ∷ [];
+}
 
 abbrev pub WordsFollow : Type 0
 WordsFollow = (p : CastScript) → IsTypedProgram p → (s : Settings) (n : ℕ) (events : List ℕ) → Trace p s n events (core_start p) []

@@ -1,5 +1,6 @@
 -- The run in the order of a seed, by hosts: thread t is run by host t, which is begun when t is picked first.
-use Rattle.std.specs.Prelude.{◌≡◌, ℕ, zero, suc, ◌+◌, Bool, true, false, List, [], ◌∷◌, length, Option, Some, None, is_some, if◌then◌else◌, slice_get}
+use Rattle.std.specs.Prelude.{◌≡◌, ℕ, zero, suc, ◌+◌, Bool, true, false, List, [], ◌∷◌, length, Option, Some, None, is_some, if◌then◌else◌}
+use Rattle.std.specs.Prelude.{slice_get}
 use Rattle.mono_syntax.specs.declared.cast.CastScript.{CastScript}
 use Rattle.mono_tree.specs.TypedPrograms.{IsTypedProgram}
 use Rattle.cast_machine.specs.declared.data.Settings.{Settings}
@@ -64,7 +65,8 @@ host_thread k seed = slice_get (hosts_from k 0 k.made) (pick seed (length (hosts
 
 abbrev pub host_seeded : CastScript → Settings → ℕ → ℕ → Hosts → Hosts
 host_seeded p s zero seed k = k
-host_seeded p s (suc n) seed k = if is_some (k.words).end then k else host_seeded p s n (next_seed seed) (host_pick p s k (host_thread k (next_seed seed)))
+host_seeded p s (suc n) seed k = if is_some (k.words).end then k
+    else host_seeded p s n (next_seed seed) (host_pick p s k (host_thread k (next_seed seed)))
 
 -- what the hosts come to stands for what the calculus comes to in the order of the seed
 abbrev pub HostsSeeded : Type 0

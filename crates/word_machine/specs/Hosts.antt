@@ -1,6 +1,7 @@
 -- The word machine with its hosts: 256 seats that are begun, claim a thread, load its arguments and run it, and the words by
 -- which a thread is started.
-use Rattle.std.specs.Prelude.{◌≡◌, ℕ, ◌+◌, ◌<◌, Bool, true, false, ◌&&◌, List, [], ◌∷◌, ◌++◌, length, Option, Some, None, nat_eq, nat_le, nat_lt, if◌then◌else◌, slice_get}
+use Rattle.std.specs.Prelude.{◌≡◌, ℕ, ◌+◌, ◌<◌, Bool, true, false, ◌&&◌, List, [], ◌∷◌, ◌++◌, length, Option, Some, None, nat_eq, nat_le}
+use Rattle.std.specs.Prelude.{nat_lt, if◌then◌else◌, slice_get}
 use Rattle.mono_syntax.specs.Ty.{Ty}
 use Rattle.mono_syntax.specs.declared.value.Val.{Val}
 use Rattle.mono_syntax.specs.declared.cast.CastScript.{CastScript}
@@ -13,7 +14,8 @@ use Rattle.cast_machine.specs.Calls.{count_of}
 use Rattle.cast_machine.specs.Cells.{same_type}
 use Rattle.cast_machine.specs.HeapTyping.{IsAsPrecise, IsFunctionOf, Extends}
 use Rattle.cast_machine.specs.Step.{main_frame}
-use Rattle.word_machine.specs.Words.{Words, Answer, Full, Counts, Drawn, Quick, Seat, Next, NLocal, NRest, NWants, NBegins, apply, next_action, resume, fresh_seat, Core, tick}
+use Rattle.word_machine.specs.Words.{Words, Answer, Full, Counts, Drawn, Quick, Seat, Next, NLocal, NRest, NWants, NBegins, apply}
+use Rattle.word_machine.specs.Words.{next_action, resume, fresh_seat, Core, tick}
 use Rattle.word_machine.specs.Follows.{Follows, OnlyOf, tick_picks, empty_results, core_start}
 
 -- ---- the words
@@ -85,7 +87,8 @@ module _ (p : CastScript) (s : Settings) (k : Hosts) (h : ℕ) where
   stores t l x = record k { slots = put k.slots t l; hosts = put k.hosts h x }
 
   abbrev pub claims : ℕ → Header → Hosts
-  claims t w = if same_header w (k.slots t).header then stores t (record (k.slots t) { header = HClaimed }) (claimed p t w) else becomes Refused
+  claims t w = if same_header w (k.slots t).header then stores t (record (k.slots t) { header = HClaimed }) (claimed p t w)
+      else becomes Refused
 
   abbrev pub loads : ℕ → ℕ → Ty → List Val → Option Val → Hosts
   loads t g m loaded None = k
@@ -102,7 +105,8 @@ module _ (p : CastScript) (s : Settings) (k : Hosts) (h : ℕ) where
   abbrev pub draws : ℕ → (Answer → Seat) → ℕ → ℕ → Ty → List Val → Hosts
   draws t res n g m args =
       if nat_eq n k.made
-      then (if nat_le 256 k.made then becomes (Runs t (res Full)) else record k { made = k.made + 1; hosts = put k.hosts h (Starts t (res (Drawn k.made)) k.made g m args) })
+      then (if nat_le 256 k.made then becomes (Runs t (res Full))
+      else record k { made = k.made + 1; hosts = put k.hosts h (Starts t (res (Drawn k.made)) k.made g m args) })
       else becomes (Runs t (res (Counts k.made)))
 
   abbrev pub runs : ℕ → (Answer → Seat) → Next → Hosts
@@ -201,7 +205,8 @@ IsStarted p u q args x = ⊥
 
 -- the claiming seat's state, with the argument words that it has still to load
 abbrev pub IsClaimed : CastScript → ℕ → Seat → List Val → Host → Type 0
-IsClaimed p u q args (Loads t g m loaded) = (t ≡ u) × Begun p g m args q × ((rest : List Val) × (args ≡ loaded ++ rest)) × (length loaded < arity m)
+IsClaimed p u q args (Loads t g m loaded) = (t ≡ u) × Begun p g m args q × ((rest : List Val) × (args ≡ loaded ++ rest))
+    × (length loaded < arity m)
 IsClaimed p u q args (Runs t r) = (t ≡ u) × (r ≡ q)
 IsClaimed p u q args (Starts t r v g m left) = (t ≡ u) × (r ≡ q)
 IsClaimed p u q args x = ⊥
@@ -236,14 +241,16 @@ pub record StandsFor (p : CastScript) (k : Hosts) (c : Core) : Type 0 where
 -- each argument word that is loaded is there
 pub record HostsRight (p : CastScript) (k : Hosts) : Type 0 where
   pub headers : (u g : ℕ) (m : Ty) → (k.slots u).header ≡ HFunc g m → IsFunctionOf p g m × (length (k.slots u).args ≡ arity m)
-  pub loads : (h t g : ℕ) (m : Ty) (loaded : List Val) → k.hosts h ≡ Loads t g m loaded → (v : Val) × (slice_get (k.slots t).args (length loaded) ≡ Some v)
+  pub loads : (h t g : ℕ) (m : Ty) (loaded : List Val) → k.hosts h ≡ Loads t g m loaded
+      → (v : Val) × (slice_get (k.slots t).args (length loaded) ≡ Some v)
 
 abbrev pub HostsFollow : Type 0
 HostsFollow =
     (p : CastScript) → IsTypedProgram p → (s : Settings) (events : List Event) →
     StandsFor p (after_events p s hosts_start events) (after_ticks p s (core_start p) (ticks_of p s hosts_start events))
     × HostsRight p (after_events p s hosts_start events)
-    × Follows p s (after_ticks p s (core_start p) (ticks_of p s hosts_start events)) (picks_of p s (core_start p) (ticks_of p s hosts_start events))
+    × Follows p s (after_ticks p s (core_start p) (ticks_of p s hosts_start events))
+    (picks_of p s (core_start p) (ticks_of p s hosts_start events))
 
 -- One event more: no heap word's type gets less precise, and the picks gain steps of the thread that its host runs, or none.
 abbrev pub HostsMore : Type 0
@@ -252,5 +259,8 @@ HostsMore =
     (after_events p s hosts_start (events ++ e ∷ []) ≡ happens p s (after_events p s hosts_start events) e)
     × Extends ((after_events p s hosts_start events).words).heap ((happens p s (after_events p s hosts_start events) e).words).heap
     × (picks_of p s (core_start p) (ticks_of p s hosts_start (events ++ e ∷ []))
-    ≡ picks_of p s (core_start p) (ticks_of p s hosts_start events) ++ picks_of p s (after_ticks p s (core_start p) (ticks_of p s hosts_start events)) (event_ticks (after_events p s hosts_start events) e))
-    × ((h t : ℕ) (q : Seat) → (after_events p s hosts_start events).hosts h ≡ Runs t q → OnlyOf t (picks_of p s (after_ticks p s (core_start p) (ticks_of p s hosts_start events)) (event_ticks (after_events p s hosts_start events) (Acts h))))
+    ≡ picks_of p s (core_start p) (ticks_of p s hosts_start events) ++ picks_of p s
+    (after_ticks p s (core_start p) (ticks_of p s hosts_start events)) (event_ticks (after_events p s hosts_start events) e))
+    × ((h t : ℕ) (q : Seat) → (after_events p s hosts_start events).hosts h ≡ Runs t q
+    → OnlyOf t (picks_of p s (after_ticks p s (core_start p) (ticks_of p s hosts_start events))
+    (event_ticks (after_events p s hosts_start events) (Acts h))))

@@ -33,4 +33,5 @@ abbrev pub NeverRests : Type 0
 NeverRests =
     (p : CastScript) → IsTypedProgram p → IsSmall p → (s : Settings) →
     ((ticks : List ℕ) → RestsRight p s (after_ticks p s (core_start p) ticks))
-    × ((events : List Event) (h t : ℕ) (q : Seat) → (after_events p s hosts_start events).hosts h ≡ Runs t q → next_action p s t q ≡ NRest → MayRest q.state)
+    × ((events : List Event) (h t : ℕ) (q : Seat) → (after_events p s hosts_start events).hosts h ≡ Runs t q → next_action p s t q ≡ NRest
+    → MayRest q.state)

@@ -1,5 +1,6 @@
 -- A pick of the calculus by words: the ticks of one thread alone until it takes its step.
-use Rattle.std.specs.Prelude.{◌≡◌, ℕ, zero, suc, ◌+◌, ◌≤◌, Bool, true, false, ◌&&◌, is_some, List, [], ◌∷◌, length, Option, Some, None, nat_eq, if◌then◌else◌, slice_get}
+use Rattle.std.specs.Prelude.{◌≡◌, ℕ, zero, suc, ◌+◌, ◌≤◌, Bool, true, false, ◌&&◌, is_some, List, [], ◌∷◌, length, Option, Some, None}
+use Rattle.std.specs.Prelude.{nat_eq, if◌then◌else◌, slice_get}
 use Rattle.mono_syntax.specs.declared.cast.CastScript.{CastScript}
 use Rattle.mono_tree.specs.TypedPrograms.{IsTypedProgram}
 use Rattle.cast_machine.specs.declared.data.Cell.{Cell}
@@ -15,7 +16,8 @@ use Rattle.cast_machine.specs.computed.Seeded.{seeded}
 use Rattle.mono_syntax.specs.declared.value.Val.{Val}
 use Rattle.cast_machine.specs.declared.data.Work.TheVariants as work
 use Rattle.word_machine.specs.Tops.{Top, TCell, TNew, TPrint, TLeave, TJoin, TBegin, top_of}
-use Rattle.word_machine.specs.Words.{Words, Micro, Seen, Count, Filling, Seeing, Seat, Core, guess, result_at, same_cell, tick, tick_steps, stands}
+use Rattle.word_machine.specs.Words.{Words, Micro, Seen, Count, Filling, Seeing, Seat, Core, guess, result_at, same_cell, tick, tick_steps}
+use Rattle.word_machine.specs.Words.{stands}
 use Rattle.word_machine.specs.Follows.{core_start}
 use Rattle.word_machine.specs.Hosts.{after_ticks}
 use Rattle.word_machine.specs.Lively.{IsSmall}
@@ -77,8 +79,10 @@ rank p k t = rank_in p k (slice_get k.seats t)
 -- step, its ticks change nothing of what the words stand for.
 abbrev pub PicksByWords : Type 0
 PicksByWords =
-    (p : CastScript) → IsTypedProgram p → IsSmall p → (s : Settings) (ticks : List ℕ) → ((after_ticks p s (core_start p) ticks).words).end ≡ None →
-    (t n : ℕ) → rank p (after_ticks p s (core_start p) ticks) t ≤ n → stands s (solo p s (suc n) (after_ticks p s (core_start p) ticks) t) ≡ picked p (stands s (after_ticks p s (core_start p) ticks)) t
+    (p : CastScript) → IsTypedProgram p → IsSmall p → (s : Settings) (ticks : List ℕ)
+    → ((after_ticks p s (core_start p) ticks).words).end ≡ None →
+    (t n : ℕ) → rank p (after_ticks p s (core_start p) ticks) t ≤ n → stands s (solo p s (suc n) (after_ticks p s (core_start p) ticks) t)
+    ≡ picked p (stands s (after_ticks p s (core_start p) ticks)) t
 
 -- ---- the order of a seed, by words
 
@@ -112,7 +116,8 @@ word_pick p s k (Some t) = solo p s (suc (rank p k t)) k t
 -- n picks by the seeds that follow, or fewer where an end is recorded
 abbrev pub word_seeded : CastScript → Settings → ℕ → ℕ → Core → Core
 word_seeded p s zero seed k = k
-word_seeded p s (suc n) seed k = if is_some (k.words).end then k else word_seeded p s n (next_seed seed) (word_pick p s k (word_thread k (next_seed seed)))
+word_seeded p s (suc n) seed k = if is_some (k.words).end then k
+    else word_seeded p s n (next_seed seed) (word_pick p s k (word_thread k (next_seed seed)))
 
 -- the words come to what the calculus comes to in the order of the seed
 abbrev pub SeededByWords : Type 0
