@@ -22,7 +22,7 @@ use Rattle.word_machine.specs.Hosts.{Header, HEmpty, HFunc, HClaimed, Slot, same
 use Rattle.word_machine.specs.Hosts.{Hosts, put, acts, arity, loading, claimed, main_seat, hosts_start, Known, ByStarter, ByWords}
 use Rattle.word_machine.specs.Hosts.{ByClaimer, Begun, IsKnown, IsReady, IsStarted, IsClaimed, StandsFor}
 use Rattle.word_machine.specs.Arrive.{acts_of}
-use Rattle.word_machine.specs.Lively.{IsSmall}
+use Rattle.cast_machine.specs.RunLimits.{HasSmallBlocks}
 use Rattle.word_machine.specs.Solo.{solo, rank, state_runs, runs_from, word_thread}
 use Rattle.word_machine.specs.HostSeeded.{host_steps, host_solo, host_rank, loads_of, arrive, settle_in, alone_in, host_pick, host_runs}
 use Rattle.word_machine.specs.HostSeeded.{hosts_from, host_thread, host_seeded, HostsSeeded}
@@ -229,7 +229,7 @@ IsOf t (Runs u q) = u ≡ t
 IsOf t (Starts u q v g m left) = u ≡ t
 IsOf t x = ⊥
 
-module _ (p : CastScript) (pok : IsTypedProgram p) (small : IsSmall p) (s : Settings) where
+module _ (p : CastScript) (pok : IsTypedProgram p) (small : HasSmallBlocks p) (s : Settings) where
   -- an act of a host that runs t leaves it with t, and runs t alone where it was no step
   module _ (k : Hosts) (h t : ℕ) (q : Seat) (x : k.hosts h ≡ Runs t q) where
     abbrev back : Answer → Seat

@@ -41,7 +41,8 @@ use Rattle.word_machine.specs.Words.{filling, put_begun, fresh_seat, stands, app
 use Rattle.word_machine.specs.Words.{next_action, resume}
 use Rattle.word_machine.specs.Follows.{core_start}
 use Rattle.word_machine.specs.Hosts.{after_events, after_ticks, ticks_of, hosts_start}
-use Rattle.word_machine.specs.Lively.{IsSmall, MayRest, RestsRight, NeverRests}
+use Rattle.cast_machine.specs.RunLimits.{HasSmallBlocks}
+use Rattle.word_machine.specs.Lively.{MayRest, RestsRight, NeverRests}
 use Rattle.word_machine.proofs.Saying.{says}
 use Rattle.word_machine.proofs.Waiting.{field_gone, top_value}
 use Rattle.word_machine.proofs.CoreOk.{fin, Finishes, seen_grows, SeatBy, CoreOk}
@@ -110,23 +111,23 @@ unbound_length : (A : Type 0) (l : List NamedType) → length (unbound {A = A} l
 unbound_length A [] = refl
 unbound_length A (b ∷ l) = ap suc (unbound_length A l)
 
-first_shallow : (a b z : ℕ) → a + b ≤ 8192 → z ≡ 1 + (a + (b + 2)) → nat_lt 16384 (z + 0) ≡ false
-first_shallow a b z i e = grind arith
+first_shallow : (a b z : ℕ) → a ≤ 4096 → b ≤ 4096 → z ≡ 1 + (a + (b + 2)) → nat_lt 16384 (z + 0) ≡ false
+first_shallow a b z i j e = grind arith
 
-fresh_lively : (p : CastScript) → IsSmall p → (g : ℕ) (d : CastFunction) → slice_get p.functions g ≡ Some d → (m : Ty) (args : List Val)
+fresh_lively : (p : CastScript) → HasSmallBlocks p → (g : ℕ) (d : CastFunction) → slice_get p.functions g ≡ Some d → (m : Ty) (args : List Val)
     → Lively p (fresh_seat d m args)
 fresh_lively p small g d at m args = (
-  first_shallow (length (d.block).names) (length (d.block).threads) (frame_items (called d m args)) (small.functions g d at)
+  first_shallow (length (d.block).names) (length (d.block).threads) (frame_items (called d m args)) (small.functions g d at).0 (small.functions g d at).1
       (ap (λ n. 1 + (n + (length (unbound {A = ℕ} (d.block).threads) + 2))) (bind_length d.params args (unbound (d.block).names)
       ∙ unbound_length Val (d.block).names)
       ∙ ap (λ n. 1 + (length (d.block).names + (n + 2))) (unbound_length ℕ (d.block).threads)),
   tt,
 )
 
-pub main_lively : (p : CastScript) → IsSmall p → (t : ℕ) (q : Seat) → slice_get (core_start p).seats t ≡ Some q → Lively p q
+pub main_lively : (p : CastScript) → HasSmallBlocks p → (t : ℕ) (q : Seat) → slice_get (core_start p).seats t ≡ Some q → Lively p q
 main_lively p small zero q e =
     subst (λ x. Lively p x) (some_is e) (
-      first_shallow (length (p.main).names) (length (p.main).threads) (frame_items (main_frame p)) small.main
+      first_shallow (length (p.main).names) (length (p.main).threads) (frame_items (main_frame p)) (small.main).0 (small.main).1
           (ap (λ n. 1 + (n + (length (unbound {A = ℕ} (p.main).threads) + 2))) (unbound_length Val (p.main).names)
           ∙ ap (λ n. 1 + (length (p.main).names + (n + 2))) (unbound_length ℕ (p.main).threads)),
       tt,
@@ -140,7 +141,7 @@ LivelyNext p (NLocal q) = Lively p q
 LivelyNext p (NBegins n j m args new) = Lively p new
 LivelyNext p n = Unit {0}
 
-module _ (p : CastScript) (small : IsSmall p) (s : Settings) where
+module _ (p : CastScript) (small : HasSmallBlocks p) (s : Settings) where
   moves_on : (q : Seat) (m : Micro) (st : State) → plain m ≡ true → Lively p (moves s q m st)
   moves_on q m st e = (after_shallow s (q.steps + 1) st, unarmed p m e (after s (q.steps + 1) st))
 

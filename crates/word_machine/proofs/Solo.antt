@@ -50,7 +50,7 @@ use Rattle.word_machine.specs.Words.{Core, deep, moves, turns, filling, guess, p
 use Rattle.word_machine.specs.Words.{stands, acted, answered, tick_seat, tick, tick_steps, next_top, resume_top, next_action}
 use Rattle.word_machine.specs.Follows.{core_start, Matches, is_filling}
 use Rattle.word_machine.specs.Hosts.{after_ticks}
-use Rattle.word_machine.specs.Lively.{IsSmall}
+use Rattle.cast_machine.specs.RunLimits.{HasSmallBlocks}
 use Rattle.word_machine.specs.Solo.{solo, one_or_two, seen_rank, leave_rank, top_rank, work_rank, base_rank, seat_rank, rank_in, rank}
 use Rattle.word_machine.specs.Solo.{PicksByWords, all_results, work_runs, state_runs, runs_from, word_thread, word_pick, word_seeded}
 use Rattle.word_machine.specs.Solo.{SeededByWords}
@@ -113,7 +113,7 @@ IsReady d f (TJoin u) = (v : Val) × (d u ≡ Some v)
 IsReady d f T = Unit {0}
 
 module _ (p : CastScript) (pok : IsTypedProgram p) (s : Settings) (rs : List Ty) (k : Core) (ok : CoreOk p rs k)
-    (none : (k.words).end ≡ None) (t : ℕ) (small : IsSmall p) where
+    (none : (k.words).end ≡ None) (t : ℕ) (small : HasSmallBlocks p) where
   abbrev h : Heap
   h = (k.words).heap
 
@@ -616,7 +616,7 @@ module _ (p : CastScript) (pok : IsTypedProgram p) (s : Settings) (rs : List Ty)
 
 -- ---- a pick
 
-module _ (p : CastScript) (pok : IsTypedProgram p) (small : IsSmall p) (s : Settings) (t : ℕ) where
+module _ (p : CastScript) (pok : IsTypedProgram p) (small : HasSmallBlocks p) (s : Settings) (t : ℕ) where
   pub solo_first : (m : ℕ) (k : Core) → tick_steps p s k t ≡ true → solo p s (suc m) k t ≡ tick p s k t
   solo_first m k e = ap (λ b. if b then tick p s k t else solo p s m (tick p s k t) t) e
 
@@ -798,7 +798,7 @@ module _ (p : CastScript) (pok : IsTypedProgram p) (s : Settings) (rs : List Ty)
       (threads_get k.seats t (record { asked = a; state = state.Failing x; steps = n; micro = m }) at)
 
   seat_is : (a : Option Ty) (st : State) (n : ℕ) (m : Micro)
-      → slice_get k.seats t ≡ Some (record { asked = a; state = st; steps = n; micro = m }) → (small : IsSmall p)
+      → slice_get k.seats t ≡ Some (record { asked = a; state = st; steps = n; micro = m }) → (small : HasSmallBlocks p)
       → is_runnable p (stands s k) t ≡ state_runs k.words st
   seat_is a (state.Running f below) n m at small = work_is a f below n m at f.work refl
   seat_is a (state.Failing x) n m at small = failing_runs a x n m at
@@ -821,7 +821,7 @@ runs_same p c w (q ∷ qs) n same =
     plus_one : (a b : ℕ) → a + 1 + b ≡ a + suc b
     plus_one a b = omega arith
 
-module _ (p : CastScript) (pok : IsTypedProgram p) (small : IsSmall p) (s : Settings) where
+module _ (p : CastScript) (pok : IsTypedProgram p) (small : HasSmallBlocks p) (s : Settings) where
   pub runs_right : (rs : List Ty) (k : Core) → CoreOk p rs k → (k.words).end ≡ None
       → runs_from k.words 0 k.seats ≡ runnable_threads p (stands s k)
   runs_right rs k ok none = runs_same p (stands s k) k.words k.seats 0 (λ i q e. ap (is_runnable p (stands s k)) (zero_plus i)

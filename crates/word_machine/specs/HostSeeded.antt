@@ -9,7 +9,7 @@ use Rattle.cast_machine.specs.computed.Seeded.{seeded}
 use Rattle.word_machine.specs.Words.{Core, next_action, is_step, next_steps, stands}
 use Rattle.word_machine.specs.Hosts.{Header, HFunc, Host, Idle, Claims, Runs, Starts, Hosts, put, acts, arity, hosts_start, StandsFor}
 use Rattle.word_machine.specs.Arrive.{acts_of}
-use Rattle.word_machine.specs.Lively.{IsSmall}
+use Rattle.cast_machine.specs.RunLimits.{HasSmallBlocks}
 use Rattle.word_machine.specs.Solo.{seat_rank, state_runs}
 
 -- whether the next act of a host is the step of its thread
@@ -71,7 +71,7 @@ host_seeded p s (suc n) seed k = if is_some (k.words).end then k
 -- what the hosts come to stands for what the calculus comes to in the order of the seed
 abbrev pub HostsSeeded : Type 0
 HostsSeeded =
-    (p : CastScript) → IsTypedProgram p → IsSmall p → (s : Settings) (n seed : ℕ) →
+    (p : CastScript) → IsTypedProgram p → HasSmallBlocks p → (s : Settings) (n seed : ℕ) →
     ((c : Core) × StandsFor p (host_seeded p s n seed hosts_start) c × (stands s c ≡ seeded p n seed (start_of p s)))
     × ((host_seeded p s n seed hosts_start).words.lines ≡ (seeded p n seed (start_of p s)).lines)
     × ((host_seeded p s n seed hosts_start).words.end ≡ (seeded p n seed (start_of p s)).end)

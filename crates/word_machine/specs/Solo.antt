@@ -20,7 +20,7 @@ use Rattle.word_machine.specs.Words.{Words, Micro, Seen, Count, Filling, Seeing,
 use Rattle.word_machine.specs.Words.{stands}
 use Rattle.word_machine.specs.Follows.{core_start}
 use Rattle.word_machine.specs.Hosts.{after_ticks}
-use Rattle.word_machine.specs.Lively.{IsSmall}
+use Rattle.cast_machine.specs.RunLimits.{HasSmallBlocks}
 
 -- thread t ticks until a tick is the step, at most n times
 abbrev pub solo : CastScript → Settings → ℕ → Core → ℕ → Core
@@ -79,7 +79,7 @@ rank p k t = rank_in p k (slice_get k.seats t)
 -- step, its ticks change nothing of what the words stand for.
 abbrev pub PicksByWords : Type 0
 PicksByWords =
-    (p : CastScript) → IsTypedProgram p → IsSmall p → (s : Settings) (ticks : List ℕ)
+    (p : CastScript) → IsTypedProgram p → HasSmallBlocks p → (s : Settings) (ticks : List ℕ)
     → ((after_ticks p s (core_start p) ticks).words).end ≡ None →
     (t n : ℕ) → rank p (after_ticks p s (core_start p) ticks) t ≤ n → stands s (solo p s (suc n) (after_ticks p s (core_start p) ticks) t)
     ≡ picked p (stands s (after_ticks p s (core_start p) ticks)) t
@@ -122,5 +122,5 @@ word_seeded p s (suc n) seed k = if is_some (k.words).end then k
 -- the words come to what the calculus comes to in the order of the seed
 abbrev pub SeededByWords : Type 0
 SeededByWords =
-    (p : CastScript) → IsTypedProgram p → IsSmall p → (s : Settings) (n seed : ℕ) →
+    (p : CastScript) → IsTypedProgram p → HasSmallBlocks p → (s : Settings) (n seed : ℕ) →
     stands s (word_seeded p s n seed (core_start p)) ≡ seeded p n seed (start_of p s)
