@@ -22,7 +22,9 @@ use Rattle.cast_machine.specs.Typing.{IsWellTypedState, result_type, results_of}
 use Rattle.cast_machine.proofs.Grows.{HeapOk, MoreResults, below_grows, extends_refl, state_grows}
 use Rattle.cast_machine.proofs.Heap.{nat_eq-refl, nat_eq-same}
 use Rattle.cast_machine.proofs.ThreadLists.{set_cases, set_here, end_cases, end_there, results_set, results_threads_after, length-slice_set}
-use Rattle.word_machine.specs.Words.{Words, result_at, Micro, Filling, Seeing, Seat, Core, reveal, thread_of, threads_of}
+use Rattle.word_machine.specs.Seats.{Micro, Filling, Seeing, Seat}
+use Rattle.word_machine.specs.Ticks.{Core, reveal, thread_of, threads_of}
+use Rattle.word_machine.specs.Words.{Words, result_at}
 
 abbrev pub res : Seat → Ty
 res q = result_type (thread_of q)

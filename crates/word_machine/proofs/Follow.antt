@@ -23,10 +23,12 @@ use Rattle.cast_machine.specs.Typing.{IsWellTypedState, around, result_type}
 use Rattle.cast_machine.specs.Step.{Configuration, main_frame, picked, run_from, run_of, start_of}
 use Rattle.cast_machine.proofs.Obligations.{owns-all}
 use Rattle.cast_machine.proofs.Runs.{start_ok}
-use Rattle.word_machine.specs.Words.{NBegins, Seeing, tick_steps, result_at, Words, Micro, Quick, Filling, Seat, Next, NLocal, NRest}
-use Rattle.word_machine.specs.Words.{NWants, next_action, resume, Core, acted, tick_seat, tick, thread_of, threads_of, reveal, stands}
-use Rattle.word_machine.specs.Follows.{Matches, tick_picks, event_picks, empty_results, is_local, local_seat, event, is_filling, Follows}
-use Rattle.word_machine.specs.Follows.{OnlyOf, Trace, core_start, WordsFollow}
+use Rattle.word_machine.specs.Follows.{Matches, tick_picks, event_picks, is_local, local_seat, event, is_filling, Follows, OnlyOf, Trace}
+use Rattle.word_machine.specs.Follows.{WordsFollow}
+use Rattle.word_machine.specs.Seats.{NBegins, Seeing, Micro, Quick, Filling, Seat, Next, NLocal, NRest, NWants, next_action, resume}
+use Rattle.word_machine.specs.Ticks.{tick_steps, Core, acted, tick_seat, tick, thread_of, threads_of, reveal, stands, empty_results}
+use Rattle.word_machine.specs.Ticks.{core_start}
+use Rattle.word_machine.specs.Words.{result_at, Words}
 use Rattle.word_machine.proofs.CoreOk.{res, fin, extends_trans, SeatBy, CoreOk}
 use Rattle.word_machine.proofs.Leaf.{Good}
 use Rattle.word_machine.proofs.Tick.{tick_ok}

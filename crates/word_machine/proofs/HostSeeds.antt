@@ -13,19 +13,23 @@ use Rattle.cast_machine.proofs.Heap.{nat_eq-same, on_test}
 use Rattle.cast_machine.specs.Step.{Configuration, next_seed, pick}
 use Rattle.cast_machine.specs.computed.Seeded.{seeded, seeded_thread, picked_at}
 use Rattle.cast_machine.proofs.SeededRuns.{seeded-suc, seeded-ended, seeded-zero}
-use Rattle.word_machine.specs.Words as W
-use Rattle.word_machine.specs.Words.{Words, Answer, Seat, Next, NLocal, NRest, NWants, NBegins, Core, is_step, next_action, resume, tick}
-use Rattle.word_machine.specs.Words.{tick_steps, stands}
-use Rattle.word_machine.specs.Follows.{core_start}
-use Rattle.word_machine.specs.Hosts as H
+use Rattle.word_machine.specs.Arrives.{acts_of}
 use Rattle.word_machine.specs.Hosts.{Header, HEmpty, HFunc, HClaimed, Slot, same_header, Host, Idle, Claims, Loads, Runs, Starts, Refused}
-use Rattle.word_machine.specs.Hosts.{Hosts, put, acts, arity, loading, claimed, main_seat, hosts_start, Known, ByStarter, ByWords}
-use Rattle.word_machine.specs.Hosts.{ByClaimer, Begun, IsKnown, IsReady, IsStarted, IsClaimed, StandsFor}
-use Rattle.word_machine.specs.Arrive.{acts_of}
+use Rattle.word_machine.specs.Hosts.{Hosts, put, acts, arity, loading, claimed, main_seat, hosts_start}
+use Rattle.word_machine.specs.Seats.{Seat, Next, NLocal, NRest, NWants, NBegins, next_action, resume}
+use Rattle.word_machine.specs.SeedOrder.{HostsSeeded}
+use Rattle.word_machine.specs.StandsFor.{Known, ByStarter, ByWords, ByClaimer, Begun, IsKnown, IsReady, IsStarted, IsClaimed, StandsFor}
+use Rattle.word_machine.specs.Ticks.{Core, is_step, tick, tick_steps, stands, core_start}
+use Rattle.word_machine.specs.Words.{Words, Answer}
+use Rattle.word_machine.specs.computed.Ranks.{solo, rank}
+use Rattle.word_machine.specs.computed.SeededHosts.{host_steps, host_solo, host_rank, loads_of, arrive, settle_in, alone_in, host_pick}
+use Rattle.word_machine.specs.computed.SeededHosts.{host_runs, hosts_from, host_thread, host_seeded}
+use Rattle.word_machine.specs.computed.SeededTicks.{state_runs, runs_from, word_thread}
+use Rattle.word_machine.specs.Hosts as TheHosts
+use Rattle.word_machine.specs.StandsFor as TheStanding
+use Rattle.word_machine.specs.Ticks as TheTicks
+use Rattle.word_machine.specs.Words as TheWords
 use Rattle.cast_machine.specs.RunLimits.{HasSmallBlocks}
-use Rattle.word_machine.specs.Solo.{solo, rank, state_runs, runs_from, word_thread}
-use Rattle.word_machine.specs.HostSeeded.{host_steps, host_solo, host_rank, loads_of, arrive, settle_in, alone_in, host_pick, host_runs}
-use Rattle.word_machine.specs.HostSeeded.{hosts_from, host_thread, host_seeded, HostsSeeded}
 use Rattle.word_machine.proofs.CoreOk.{CoreOk}
 use Rattle.word_machine.proofs.Tick.{tick_ok}
 use Rattle.word_machine.proofs.Follow.{start_core}
@@ -45,21 +49,21 @@ module _ (p : CastScript) (s : Settings) (h j : ℕ) (d : nat_eq h j ≡ false) 
   put_stays : (k : Hosts) (x : Host) → put k.hosts h x j ≡ k.hosts j
   put_stays k x = put_other k.hosts h j x d
 
-  runs_stays : (k : Hosts) (t : ℕ) (back : Answer → Seat) (n : Next) → Stays k (H.runs p s k h t back n)
+  runs_stays : (k : Hosts) (t : ℕ) (back : Answer → Seat) (n : Next) → Stays k (TheHosts.runs p s k h t back n)
   runs_stays k t back (NLocal q) = put_stays k (Runs t q)
   runs_stays k t back NRest = refl
-  runs_stays k t back (NWants a) = put_stays k (Runs t (back (W.apply s k.words a).1))
+  runs_stays k t back (NWants a) = put_stays k (Runs t (back (TheWords.apply s k.words a).1))
   runs_stays k t back (NBegins n g m args new) =
       on_test (nat_eq n k.made) _ _ (Stays k)
-      (λ e. on_test (nat_le 256 k.made) _ _ (Stays k) (λ y. put_stays k (Runs t (back W.Full)))
-      (λ y. put_stays k (Starts t (back (W.Drawn k.made)) k.made g m args)))
-      (λ e. put_stays k (Runs t (back (W.Counts k.made))))
+      (λ e. on_test (nat_le 256 k.made) _ _ (Stays k) (λ y. put_stays k (Runs t (back TheWords.Full)))
+      (λ y. put_stays k (Starts t (back (TheWords.Drawn k.made)) k.made g m args)))
+      (λ e. put_stays k (Runs t (back (TheWords.Counts k.made))))
 
-  loads_stays : (k : Hosts) (t g : ℕ) (m : Ty) (loaded : List Val) (o : Option Val) → Stays k (H.loads p s k h t g m loaded o)
+  loads_stays : (k : Hosts) (t g : ℕ) (m : Ty) (loaded : List Val) (o : Option Val) → Stays k (TheHosts.loads p s k h t g m loaded o)
   loads_stays k t g m loaded None = refl
   loads_stays k t g m loaded (Some v) = put_stays k (loading p t g m (loaded ++ v ∷ []))
 
-  starts_stays : (k : Hosts) (t : ℕ) (q : Seat) (u g : ℕ) (m : Ty) (left : List Val) → Stays k (H.starts p s k h t q u g m left)
+  starts_stays : (k : Hosts) (t : ℕ) (q : Seat) (u g : ℕ) (m : Ty) (left : List Val) → Stays k (TheHosts.starts p s k h t q u g m left)
   starts_stays k t q u g m [] = put_stays k (Runs t q)
   starts_stays k t q u g m (v ∷ vs) = put_stays k (Starts t q u g m vs)
 
@@ -88,14 +92,14 @@ module _ (p : CastScript) (s : Settings) (c : Core) (h : ℕ) where
       → length loaded + length rest ≡ arity m → k.hosts h ≡ loading p t g m loaded → StandsFor p (acts_of p s (length rest) k h) c
   loads_stand [] loaded k t g m st args many x = st
   loads_stand (v ∷ rest) loaded k t g m st args many x =
-      let y : k.hosts h ≡ Loads t g m loaded = x ∙ ap (λ b. if b then H.first_seat (slice_get p.functions g) t m loaded
+      let y : k.hosts h ≡ Loads t g m loaded = x ∙ ap (λ b. if b then TheHosts.first_seat (slice_get p.functions g) t m loaded
       else Loads t g m loaded) (more_left p s (arity m) (length loaded) (length rest) many) in
       let found : slice_get (k.slots t).args (length loaded) ≡ Some v = ap (λ l. slice_get l (length loaded)) args
       ∙ get_behind loaded (v ∷ rest) in
       subst (λ z. StandsFor p z c)
       (sym (one_act p s (length rest) k h (Loads t g m loaded) y
-      ∙ ap (λ o. acts_of p s (length rest) (H.loads p s k h t g m loaded o) h) found))
-      (loads_stand rest (loaded ++ v ∷ []) (H.loads p s k h t g m loaded (Some v)) t g m
+      ∙ ap (λ o. acts_of p s (length rest) (TheHosts.loads p s k h t g m loaded o) h) found))
+      (loads_stand rest (loaded ++ v ∷ []) (TheHosts.loads p s k h t g m loaded (Some v)) t g m
       (load_ok p k c st h s t g m loaded y (Some v) found) (args ∙ sym (append_one loaded v rest)) (count loaded v rest (arity m) many)
       (put_here k.hosts h (loading p t g m (loaded ++ v ∷ []))))
     where
@@ -108,7 +112,7 @@ module _ (p : CastScript) (s : Settings) (c : Core) (h : ℕ) where
       (start_ok p k c st h s t q u g m [] e)
   starts_stand (v ∷ vs) k t u g q m st e =
       subst (λ z. StandsFor p z c) (sym (one_act p s (suc (length vs)) k h (Starts t q u g m (v ∷ vs)) e))
-      (starts_stand vs (H.starts p s k h t q u g m (v ∷ vs)) t u g q m (start_ok p k c st h s t q u g m (v ∷ vs) e)
+      (starts_stand vs (TheHosts.starts p s k h t q u g m (v ∷ vs)) t u g q m (start_ok p k c st h s t q u g m (v ∷ vs) e)
       (put_here k.hosts h (Starts t q u g m vs)))
 
 -- ---- between picks each host is idle, or runs the thread of its number
@@ -165,11 +169,11 @@ module _ (p : CastScript) (k : Hosts) (c : Core) (st : StandsFor p k c) (settled
         let q = there c.seats t less in
         alone_ok p k c st t (Claims t (k.slots t).header) (λ u r args j. absurd (subst (λ y. IsStarted p u r args y) idle j))
         (λ u r args j. absurd (subst (λ y. IsClaimed p u r args y) idle j))
-        (λ known. subst (λ y. H.Knows known (length c.seats) t (Claims t y)) (sym e)
+        (λ known. subst (λ y. TheStanding.Knows known (length c.seats) t (Claims t y)) (sym e)
         (knows known w (subst (λ y. IsReady p t q.0 (k.slots t).args y) e (ready_words q.0 q.1)) q.0))
       where
         knows : (known : ℕ → Known) (w : Header) → (i : IsReady p t (there c.seats t less).0 (k.slots t).args w) → Seat
-            → H.Knows known (length c.seats) t (Claims t w)
+            → TheStanding.Knows known (length c.seats) t (Claims t w)
         knows known HEmpty i q = i.0
         knows known (HFunc g m) i q = tt
         knows known HClaimed i q = absurd i
@@ -189,8 +193,8 @@ module _ (p : CastScript) (k : Hosts) (c : Core) (st : StandsFor p k c) (settled
             main_seat p,
             ap (λ (y : Hosts). y.hosts t)
                 (one_act p s 0 begun t (Claims t HEmpty) x
-                ∙ ap (λ b. if b then H.stores p s begun t t (record (k.slots t) { header = HClaimed }) (Runs t (main_seat p))
-                else H.becomes p s begun t Refused) (ap (same_header HEmpty) e))
+                ∙ ap (λ b. if b then TheHosts.stores p s begun t t (record (k.slots t) { header = HClaimed }) (Runs t (main_seat p))
+                else TheHosts.becomes p s begun t Refused) (ap (same_header HEmpty) e))
                 ∙ put_here begun.hosts t (Runs t (main_seat p)),
           ),
         )
@@ -199,7 +203,7 @@ module _ (p : CastScript) (k : Hosts) (c : Core) (st : StandsFor p k c) (settled
         let bst = begun_stands (HFunc g m) e in
         let right = hosts_right p begun c bst in
         let many = (right.headers t g m e).1 in
-        let k' = H.stores p s begun t t (record (k.slots t) { header = HClaimed }) (claimed p t (HFunc g m)) in
+        let k' = TheHosts.stores p s begun t t (record (k.slots t) { header = HClaimed }) (claimed p t (HFunc g m)) in
         let st' : StandsFor p k' c = subst (λ y. StandsFor p y c) (claim_is p s begun t t g m e)
         (claim_ok p begun c bst t s t (HFunc g m) x) in
         let run : acts_of p s (suc (arity m)) begun t ≡ acts_of p s (length (k.slots t).args) k' t = one_act p s (arity m) begun t
@@ -243,28 +247,32 @@ module _ (p : CastScript) (pok : IsTypedProgram p) (small : HasSmallBlocks p) (s
     put_quiet true r k' e = subst (λ y. IsOf t y) (sym e) refl
     put_quiet false r k' e = (r, e)
 
-    runs_quiet : (n : Next) → next_action p s t q ≡ n → Quiet (W.next_steps p s k.words k.made (is_step p s q) n) (H.runs p s k h t back n)
-    runs_quiet (NLocal r) e = put_quiet true r (H.runs p s k h t back (NLocal r)) (put_here k.hosts h (Runs t r))
+    runs_quiet : (n : Next) → next_action p s t q ≡ n → Quiet (TheTicks.next_steps p s k.words k.made (is_step p s q) n)
+        (TheHosts.runs p s k h t back n)
+    runs_quiet (NLocal r) e = put_quiet true r (TheHosts.runs p s k h t back (NLocal r)) (put_here k.hosts h (Runs t r))
     runs_quiet NRest e = (q, x)
-    runs_quiet (NWants a) e = put_quiet (is_step p s q (W.apply s k.words a).1) (back (W.apply s k.words a).1)
-        (H.runs p s k h t back (NWants a)) (put_here k.hosts h (Runs t (back (W.apply s k.words a).1)))
+    runs_quiet (NWants a) e = put_quiet (is_step p s q (TheWords.apply s k.words a).1) (back (TheWords.apply s k.words a).1)
+        (TheHosts.runs p s k h t back (NWants a)) (put_here k.hosts h (Runs t (back (TheWords.apply s k.words a).1)))
     runs_quiet (NBegins n g m args new) e = go (nat_eq n k.made) (nat_le 256 k.made)
       where
         by : Answer → Bool
         by a = is_step p s q a
 
-        go : (y z : Bool) → Quiet (is_step p s q (if y then (if z then W.Full else W.Drawn k.made) else W.Counts k.made))
-            (if y then (if z then H.becomes p s k h (Runs t (back W.Full))
-            else record k { made = k.made + 1; hosts = put k.hosts h (Starts t (back (W.Drawn k.made)) k.made g m args) })
-            else H.becomes p s k h (Runs t (back (W.Counts k.made))))
-        go true true = put_quiet (is_step p s q W.Full) (back W.Full) (H.becomes p s k h (Runs t (back W.Full)))
-            (put_here k.hosts h (Runs t (back W.Full)))
+        go : (y z : Bool)
+            → Quiet (is_step p s q (if y then (if z then TheWords.Full else TheWords.Drawn k.made) else TheWords.Counts k.made))
+            (if y then (if z then TheHosts.becomes p s k h (Runs t (back TheWords.Full))
+            else record k { made = k.made + 1; hosts = put k.hosts h (Starts t (back (TheWords.Drawn k.made)) k.made g m args) })
+            else TheHosts.becomes p s k h (Runs t (back (TheWords.Counts k.made))))
+        go true true = put_quiet (is_step p s q TheWords.Full) (back TheWords.Full) (TheHosts.becomes p s k h (Runs t (back TheWords.Full)))
+            (put_here k.hosts h (Runs t (back TheWords.Full)))
         go true false =
-            subst (λ b. Quiet b (record k { made = k.made + 1; hosts = put k.hosts h (Starts t (back (W.Drawn k.made)) k.made g m args) }))
+            subst (λ b. Quiet b
+            (record k { made = k.made + 1; hosts = put k.hosts h (Starts t (back (TheWords.Drawn k.made)) k.made g m args) }))
             (sym (drawn_steps p s t q n g m args new e k.made))
-            (subst (λ y. IsOf t y) (sym (put_here k.hosts h (Starts t (back (W.Drawn k.made)) k.made g m args))) refl)
-        go false z = put_quiet (is_step p s q (W.Counts k.made)) (back (W.Counts k.made))
-            (H.becomes p s k h (Runs t (back (W.Counts k.made)))) (put_here k.hosts h (Runs t (back (W.Counts k.made))))
+            (subst (λ y. IsOf t y) (sym (put_here k.hosts h (Starts t (back (TheWords.Drawn k.made)) k.made g m args))) refl)
+        go false z = put_quiet (is_step p s q (TheWords.Counts k.made)) (back (TheWords.Counts k.made))
+            (TheHosts.becomes p s k h (Runs t (back (TheWords.Counts k.made))))
+            (put_here k.hosts h (Runs t (back (TheWords.Counts k.made))))
 
     acts_quiet : Quiet (host_steps p s k (Runs t q)) (acts p s k h (Runs t q))
     acts_quiet = runs_quiet (next_action p s t q) refl
@@ -273,15 +281,15 @@ module _ (p : CastScript) (pok : IsTypedProgram p) (small : HasSmallBlocks p) (s
   steps_same : (k : Hosts) (c : Core) → StandsFor p k c → (h t : ℕ) (q : Seat) → k.hosts h ≡ Runs t q
       → host_steps p s k (Runs t q) ≡ tick_steps p s c t
   steps_same k c st h t q x =
-      ap (λ w. W.next_steps p s w k.made (is_step p s q) (next_action p s t q)) st.words
-      ∙ ap (λ n. W.next_steps p s c.words n (is_step p s q) (next_action p s t q)) st.made
-      ∙ sym (ap (W.seat_steps p s c t) (runs_seat p k c st h s t q x).0)
+      ap (λ w. TheTicks.next_steps p s w k.made (is_step p s q) (next_action p s t q)) st.words
+      ∙ ap (λ n. TheTicks.next_steps p s c.words n (is_step p s q) (next_action p s t q)) st.made
+      ∙ sym (ap (TheTicks.seat_steps p s c t) (runs_seat p k c st h s t q x).0)
 
   rank_same : (k : Hosts) (c : Core) → StandsFor p k c → (h t : ℕ) (q : Seat) → k.hosts h ≡ Runs t q → host_rank p k (Runs t q) ≡ rank p c t
   rank_same k c st h t q x =
-      ap (λ w. Rattle.word_machine.specs.Solo.seat_rank p w k.made q.micro q.state) st.words
-      ∙ ap (λ n. Rattle.word_machine.specs.Solo.seat_rank p c.words n q.micro q.state) st.made
-      ∙ sym (ap (Rattle.word_machine.specs.Solo.rank_in p c) (runs_seat p k c st h s t q x).0)
+      ap (λ w. Rattle.word_machine.specs.computed.Ranks.seat_rank p w k.made q.micro q.state) st.words
+      ∙ ap (λ n. Rattle.word_machine.specs.computed.Ranks.seat_rank p c.words n q.micro q.state) st.made
+      ∙ sym (ap (Rattle.word_machine.specs.computed.Ranks.rank_in p c) (runs_seat p k c st h s t q x).0)
 
   abbrev Alone : ℕ → Hosts → Core → Type 0
   Alone t k c = StandsFor p k c × IsOf t (k.hosts t)

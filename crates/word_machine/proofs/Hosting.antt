@@ -14,14 +14,17 @@ use Rattle.cast_machine.specs.Cells.{same_type}
 use Rattle.cast_machine.proofs.Heap.{nat_eq-same, nat_eq-refl, on_test}
 use Rattle.cast_machine.proofs.Obligations.{same_type-eq}
 use Rattle.cast_machine.proofs.ThreadLists.{set_cases, set_here, end_cases, length-slice_set}
-use Rattle.word_machine.specs.Words.{Words, Answer, Full, Counts, Drawn, Seat, Next, NLocal, NRest, NWants, NBegins, apply, next_action}
-use Rattle.word_machine.specs.Words.{resume, fresh_seat, Core, acted, answered, tick, tick_seat, tick_steps}
-use Rattle.word_machine.specs.Follows.{Follows, OnlyOf, tick_picks, core_start}
-use Rattle.word_machine.specs.Hosts as H
+use Rattle.word_machine.specs.Follows.{Follows, OnlyOf, tick_picks}
 use Rattle.word_machine.specs.Hosts.{Header, HEmpty, HFunc, HClaimed, Slot, same_header, Host, Idle, Claims, Loads, Runs, Starts, Refused}
 use Rattle.word_machine.specs.Hosts.{Hosts, put, arity, main_seat, first_seat, loading, claimed, Event, Acts, BeginsMain, Begins}
-use Rattle.word_machine.specs.Hosts.{host_ticks, event_ticks, happens, after_ticks, hosts_start, Begun, HostsFollow, HostsMore, HostsRight}
-use Rattle.word_machine.specs.Hosts.{Known, ByStarter, ByWords, ByClaimer, IsReady, IsStarted, IsClaimed, IsKnown, Knows, StandsFor}
+use Rattle.word_machine.specs.Hosts.{host_ticks, event_ticks, happens, hosts_start}
+use Rattle.word_machine.specs.Seats.{Seat, Next, NLocal, NRest, NWants, NBegins, next_action, resume, fresh_seat}
+use Rattle.word_machine.specs.StandsFor.{Begun, HostsFollow, HostsMore, HostsRight, Known, ByStarter, ByWords, ByClaimer, IsReady}
+use Rattle.word_machine.specs.StandsFor.{IsStarted, IsClaimed, IsKnown, Knows, StandsFor}
+use Rattle.word_machine.specs.Ticks.{Core, acted, answered, tick, tick_seat, tick_steps, core_start, after_ticks}
+use Rattle.word_machine.specs.Words.{Words, Answer, Full, Counts, Drawn, apply}
+use Rattle.word_machine.specs.Follows as ThePicks
+use Rattle.word_machine.specs.Hosts as TheHosts
 use Rattle.cast_machine.specs.HeapTyping.{Extends}
 use Rattle.cast_machine.proofs.Grows.{extends_refl}
 use Rattle.word_machine.proofs.CoreOk.{CoreOk}
@@ -383,7 +386,7 @@ module _ (p : CastScript) (k : Hosts) (c : Core) (st : StandsFor p k c) (h : ℕ
     claim_by (HFunc g m) e i z = func_claim g m e i
     claim_by HClaimed e i z = absurd (false≢true z)
 
-  pub claim_ok : (s : Settings) (t : ℕ) (w : Header) → k.hosts h ≡ Claims t w → StandsFor p (H.claims p s k h t w) c
+  pub claim_ok : (s : Settings) (t : ℕ) (w : Header) → k.hosts h ≡ Claims t w → StandsFor p (TheHosts.claims p s k h t w) c
   claim_ok s t w x =
       on_test (same_header w (k.slots t).header) _ _ (λ y. StandsFor p y c)
       (λ yes'. let e = same_header-eq w (k.slots t).header yes' in claim_by t w x w refl (sym e)
@@ -393,7 +396,7 @@ module _ (p : CastScript) (k : Hosts) (c : Core) (st : StandsFor p k c) (h : ℕ
   -- ---- an argument is loaded
 
   pub load_ok : (s : Settings) (t g : ℕ) (m : Ty) (loaded : List Val) → k.hosts h ≡ Loads t g m loaded → (o : Option Val)
-      → slice_get (k.slots t).args (length loaded) ≡ o → StandsFor p (H.loads p s k h t g m loaded o) c
+      → slice_get (k.slots t).args (length loaded) ≡ o → StandsFor p (TheHosts.loads p s k h t g m loaded o) c
   load_ok s t g m loaded x None e = st
   load_ok s t g m loaded x (Some v) e =
       let kn = subst (λ y. Knows st.known (length c.seats) h y) x (st.hosts h) in
@@ -483,7 +486,7 @@ module _ (p : CastScript) (k : Hosts) (c : Core) (st : StandsFor p k c) (h : ℕ
     still_mine n = put_other st.known u t n other_thread ∙ kn.0
 
   pub start_ok : (s : Settings) (t : ℕ) (q : Seat) (u g : ℕ) (m : Ty) (left : List Val) → k.hosts h ≡ Starts t q u g m left
-      → StandsFor p (H.starts p s k h t q u g m left) c
+      → StandsFor p (TheHosts.starts p s k h t q u g m left) c
   start_ok s t q u g m [] x =
       let l : Slot = record (k.slots u) { header = HFunc g m } in
       let f = new_seat s t q u g m [] x in
@@ -665,12 +668,12 @@ module _ (p : CastScript) (pok : IsTypedProgram p) (s : Settings) (k : Hosts) (r
   seat_only : (r : Seat) → By (record k { hosts = put k.hosts h (Runs t r) }) (record { words = c.words; seats = slice_set c.seats t r })
   seat_only r = moved_ok p k c st h s t q x k.words c.words r st.words
 
-  answered_ok : (res : Answer → Seat) (r : Words × Answer) → By (H.answers p s k h t res r) (answered s c t res r)
+  answered_ok : (res : Answer → Seat) (r : Words × Answer) → By (TheHosts.answers p s k h t res r) (answered s c t res r)
   answered_ok res r = moved_ok p k c st h s t q x r.0 r.0 (res r.1) refl
 
   draws_ok : (res : Answer → Seat) (n g : ℕ) (m : Ty) (args : List Val) (new : Seat) → Begun p g m args new
-      → By (H.draws p s k h t res n g m args) (Rattle.word_machine.specs.Words.begins s c t res n new)
-  draws_ok res n g m args new b = subst (λ z. By (by_count z) (Rattle.word_machine.specs.Words.begins s c t res n new)) (sym st.made)
+      → By (TheHosts.draws p s k h t res n g m args) (Rattle.word_machine.specs.Ticks.begins s c t res n new)
+  draws_ok res n g m args new b = subst (λ z. By (by_count z) (Rattle.word_machine.specs.Ticks.begins s c t res n new)) (sym st.made)
       (go (nat_eq n (length c.seats)) (nat_le 256 (length c.seats)) refl)
     where
       by_count : ℕ → Hosts
@@ -713,16 +716,17 @@ module _ (p : CastScript) (pok : IsTypedProgram p) (s : Settings) (k : Hosts) (r
       go true false e = two (res (Drawn (length c.seats)))
       go false z e = seat_only (res (Counts (length c.seats)))
 
-  runs_ok : (n : Next) → next_action p s t q ≡ n → By (H.runs p s k h t (resume p s q) n) (acted s c t (resume p s q) n)
+  runs_ok : (n : Next) → next_action p s t q ≡ n → By (TheHosts.runs p s k h t (resume p s q) n) (acted s c t (resume p s q) n)
   runs_ok (NLocal r) e = seat_only r
   runs_ok NRest e = st
   runs_ok (NWants a) e =
-      subst (λ w. By (H.answers p s k h t (resume p s q) (apply s w a)) (answered s c t (resume p s q) (apply s c.words a))) (sym st.words)
+      subst (λ w. By (TheHosts.answers p s k h t (resume p s q) (apply s w a)) (answered s c t (resume p s q) (apply s c.words a)))
+      (sym st.words)
       (answered_ok (resume p s q) (apply s c.words a))
   runs_ok (NBegins n g m args new) e = draws_ok (resume p s q) n g m args new (begins_right p s rs c ok t q at n g m args new e)
 
-  pub ticked_ok : By (H.acts p s k h (Runs t q)) (tick p s c t)
-  ticked_ok = subst (λ o. By (H.acts p s k h (Runs t q)) (tick_seat p s c t o)) (sym at) (runs_ok (next_action p s t q) refl)
+  pub ticked_ok : By (TheHosts.acts p s k h (Runs t q)) (tick p s c t)
+  ticked_ok = subst (λ o. By (TheHosts.acts p s k h (Runs t q)) (tick_seat p s c t o)) (sym at) (runs_ok (next_action p s t q) refl)
 
 -- ---- events
 
@@ -733,7 +737,7 @@ pub record Held (p : CastScript) (k : Hosts) (c : Core) : Type 0 where
   pub stands : StandsFor p k c
 
 module _ (p : CastScript) (pok : IsTypedProgram p) (s : Settings) (k : Hosts) (c : Core) (i : Held p k c) where
-  pub acts_ok : (h : ℕ) (x : Host) → k.hosts h ≡ x → Held p (H.acts p s k h x) (after_ticks p s c (host_ticks x))
+  pub acts_ok : (h : ℕ) (x : Host) → k.hosts h ≡ x → Held p (TheHosts.acts p s k h x) (after_ticks p s c (host_ticks x))
   acts_ok h Idle e = i
   acts_ok h (Claims t w) e = record { results = i.results; ok = i.ok; stands = claim_ok p k c i.stands h s t w e }
   acts_ok h (Loads t g m loaded) e = record {
@@ -749,7 +753,7 @@ module _ (p : CastScript) (pok : IsTypedProgram p) (s : Settings) (k : Hosts) (c
 
   -- an idle host is begun
   begin_ok : (h t : ℕ) (w : Header) → ((known : ℕ → Known) → Knows known (length c.seats) h (Claims t w)) → (x : Host) → k.hosts h ≡ x
-      → Held p (H.begins p s k h t w x) c
+      → Held p (TheHosts.begins p s k h t w x) c
   begin_ok h t w knows Idle e = record {
     results = i.results;
     ok = i.ok;
@@ -765,7 +769,8 @@ module _ (p : CastScript) (pok : IsTypedProgram p) (s : Settings) (k : Hosts) (c
   happens_ok : (e : Event) → Held p (happens p s k e) (after_ticks p s c (event_ticks k e))
   happens_ok (Acts h) = go (nat_lt h 256)
     where
-      go : (b : Bool) → Held p (if b then H.acts p s k h (k.hosts h) else k) (after_ticks p s c (if b then host_ticks (k.hosts h) else []))
+      go : (b : Bool)
+          → Held p (if b then TheHosts.acts p s k h (k.hosts h) else k) (after_ticks p s c (if b then host_ticks (k.hosts h) else []))
       go true = acts_ok h (k.hosts h) refl
       go false = i
   happens_ok (BeginsMain h) = on_test (nat_lt h 256) _ _ (λ y. Held p y c) (λ e. begin_ok h 0 HEmpty (λ known. refl) (k.hosts h) refl)
@@ -779,11 +784,11 @@ ticks_more p s c [] ys = refl
 ticks_more p s c (x ∷ xs) ys = ticks_more p s (tick p s c x) xs ys
 
 pub events_ok : (p : CastScript) → IsTypedProgram p → (s : Settings) (k : Hosts) (c : Core) → Held p k c → (es : List Event)
-    → Held p (H.after_events p s k es) (after_ticks p s c (H.ticks_of p s k es))
+    → Held p (TheHosts.after_events p s k es) (after_ticks p s c (TheHosts.ticks_of p s k es))
 events_ok p pok s k c i [] = i
 events_ok p pok s k c i (e ∷ es) =
-    subst (λ z. Held p (H.after_events p s (happens p s k e) es) z)
-    (sym (ticks_more p s c (event_ticks k e) (H.ticks_of p s (happens p s k e) es)))
+    subst (λ z. Held p (TheHosts.after_events p s (happens p s k e) es) z)
+    (sym (ticks_more p s c (event_ticks k e) (TheHosts.ticks_of p s (happens p s k e) es)))
     (events_ok p pok s (happens p s k e) (after_ticks p s c (event_ticks k e)) (happens_ok p pok s k c i e) es)
 
 pub start_held : (p : CastScript) → IsTypedProgram p → (s : Settings) → Held p hosts_start (core_start p)
@@ -831,12 +836,12 @@ module _ (p : CastScript) (k : Hosts) (c : Core) (st : StandsFor p k c) where
 -- ---- with the calculus
 
 ticks_follow : (p : CastScript) (pok : IsTypedProgram p) → (s : Settings) (ts : List ℕ) (rs : List Ty) (c : Core) → CoreOk p rs c
-    → (picks : List ℕ) → Now p pok s c picks → Follows p s (after_ticks p s c ts) (picks ++ H.picks_of p s c ts)
+    → (picks : List ℕ) → Now p pok s c picks → Follows p s (after_ticks p s c ts) (picks ++ ThePicks.picks_of p s c ts)
 ticks_follow p pok s [] rs c ok picks now = subst (λ l. Follows p s c l) (sym (append_none picks)) (follows p pok s rs c ok picks now)
 ticks_follow p pok s (t ∷ ts) rs c ok picks now =
     let r = ran_tick p pok s rs c ok t in
     subst (λ l. Follows p s (after_ticks p s (tick p s c t) ts) l)
-    (append_three picks (tick_picks p s c t) (H.picks_of p s (tick p s c t) ts))
+    (append_three picks (tick_picks p s c t) (ThePicks.picks_of p s (tick p s c t) ts))
     (ticks_follow p pok s ts r.results (tick p s c t) r.ok (picks ++ tick_picks p s c t)
     (now_more p pok s c picks t (tick_picks p s c t) (tick p s c t) now r))
   where
@@ -847,9 +852,13 @@ ticks_follow p pok s (t ∷ ts) rs c ok picks now =
 pub hosts_follow : HostsFollow
 hosts_follow p pok s events = (
   (events_ok p pok s hosts_start (core_start p) (start_held p pok s) events).stands,
-  hosts_right p (H.after_events p s hosts_start events) (after_ticks p s (core_start p) (H.ticks_of p s hosts_start events))
+  hosts_right p (TheHosts.after_events p s hosts_start events) (after_ticks p s (core_start p) (TheHosts.ticks_of p s hosts_start events))
       (events_ok p pok s hosts_start (core_start p) (start_held p pok s) events).stands,
-  ticks_follow p pok s (H.ticks_of p s hosts_start events) (dyn ∷ []) (core_start p) (start_core p pok s) [] ((λ none. refl), refl, refl),
+  ticks_follow p pok s (TheHosts.ticks_of p s hosts_start events) (dyn ∷ []) (core_start p) (start_core p pok s) [] (
+    (λ none. refl),
+    refl,
+    refl,
+  ),
 )
 
 -- ---- one event more
@@ -858,31 +867,31 @@ module _ (p : CastScript) (pok : IsTypedProgram p) (s : Settings) (k : Hosts) (c
   abbrev Grows : Hosts → Type 0
   Grows k' = Extends (k.words).heap (k'.words).heap
 
-  ticked_grows : (h t : ℕ) (q : Seat) → k.hosts h ≡ Runs t q → Grows (H.acts p s k h (Runs t q))
+  ticked_grows : (h t : ℕ) (q : Seat) → k.hosts h ≡ Runs t q → Grows (TheHosts.acts p s k h (Runs t q))
   ticked_grows h t q e =
       let good = tick_ok p pok s i.results c i.ok t in
       let st = ticked_ok p pok s k i.results c i.ok i.stands h t q e in
       subst (λ w. Extends (k.words).heap w.heap) (sym st.words)
       (subst (λ w. Extends w.heap ((tick p s c t).words).heap) (sym (i.stands).words) good.grows)
 
-  acts_grow : (h : ℕ) (x : Host) → k.hosts h ≡ x → Grows (H.acts p s k h x)
+  acts_grow : (h : ℕ) (x : Host) → k.hosts h ≡ x → Grows (TheHosts.acts p s k h x)
   acts_grow h Idle e = extends_refl (k.words).heap
   acts_grow h (Claims t w) e = on_test (same_header w (k.slots t).header) _ _ Grows (λ y. extends_refl (k.words).heap)
       (λ y. extends_refl (k.words).heap)
   acts_grow h (Loads t g m loaded) e = by_load (slice_get (k.slots t).args (length loaded))
     where
-      by_load : (o : Option Val) → Grows (H.loads p s k h t g m loaded o)
+      by_load : (o : Option Val) → Grows (TheHosts.loads p s k h t g m loaded o)
       by_load None = extends_refl (k.words).heap
       by_load (Some v) = extends_refl (k.words).heap
   acts_grow h (Runs t q) e = ticked_grows h t q e
   acts_grow h (Starts t q u g m left) e = by_left left
     where
-      by_left : (l : List Val) → Grows (H.starts p s k h t q u g m l)
+      by_left : (l : List Val) → Grows (TheHosts.starts p s k h t q u g m l)
       by_left [] = extends_refl (k.words).heap
       by_left (v ∷ vs) = extends_refl (k.words).heap
   acts_grow h Refused e = extends_refl (k.words).heap
 
-  begins_grow : (h t : ℕ) (w : Header) (x : Host) → Grows (H.begins p s k h t w x)
+  begins_grow : (h t : ℕ) (w : Header) (x : Host) → Grows (TheHosts.begins p s k h t w x)
   begins_grow h t w Idle = extends_refl (k.words).heap
   begins_grow h t w (Claims u y) = extends_refl (k.words).heap
   begins_grow h t w (Loads u g m loaded) = extends_refl (k.words).heap
@@ -898,25 +907,31 @@ module _ (p : CastScript) (pok : IsTypedProgram p) (s : Settings) (k : Hosts) (c
       (λ y. extends_refl (k.words).heap)
 
 module _ (p : CastScript) (s : Settings) where
-  events_more : (k : Hosts) (es : List Event) (e : Event) → H.after_events p s k (es ++ e ∷ []) ≡ happens p s (H.after_events p s k es) e
+  events_more : (k : Hosts) (es : List Event) (e : Event)
+      → TheHosts.after_events p s k (es ++ e ∷ []) ≡ happens p s (TheHosts.after_events p s k es) e
   events_more k [] e = refl
   events_more k (x ∷ es) e = events_more (happens p s k x) es e
 
-  ticks_append : (k : Hosts) (es : List Event) (e : Event) → H.ticks_of p s k (es ++ e ∷ []) ≡ H.ticks_of p s k es ++ event_ticks
-      (H.after_events p s k es) e
+  ticks_append : (k : Hosts) (es : List Event) (e : Event)
+      → TheHosts.ticks_of p s k (es ++ e ∷ []) ≡ TheHosts.ticks_of p s k es ++ event_ticks
+      (TheHosts.after_events p s k es) e
   ticks_append k [] e = append_none (event_ticks k e)
   ticks_append k (x ∷ es) e = ap (λ l. event_ticks k x ++ l) (ticks_append (happens p s k x) es e)
-      ∙ sym (append_all (event_ticks k x) (H.ticks_of p s (happens p s k x) es) (event_ticks (H.after_events p s (happens p s k x) es) e))
+      ∙ sym (append_all (event_ticks k x) (TheHosts.ticks_of p s (happens p s k x) es)
+      (event_ticks (TheHosts.after_events p s (happens p s k x) es) e))
 
-  picks_append : (c : Core) (xs ys : List ℕ) → H.picks_of p s c (xs ++ ys) ≡ H.picks_of p s c xs ++ H.picks_of p s (after_ticks p s c xs) ys
+  picks_append : (c : Core) (xs ys : List ℕ) → ThePicks.picks_of p s c (xs ++ ys) ≡ ThePicks.picks_of p s c xs ++ ThePicks.picks_of p s
+      (after_ticks p s c xs) ys
   picks_append c [] ys = refl
   picks_append c (x ∷ xs) ys = ap (λ l. tick_picks p s c x ++ l) (picks_append (tick p s c x) xs ys)
-      ∙ sym (append_all (tick_picks p s c x) (H.picks_of p s (tick p s c x) xs) (H.picks_of p s (after_ticks p s (tick p s c x) xs) ys))
+      ∙ sym (append_all (tick_picks p s c x) (ThePicks.picks_of p s (tick p s c x) xs)
+      (ThePicks.picks_of p s (after_ticks p s (tick p s c x) xs) ys))
 
-  only_event : (k : Hosts) (c : Core) (h t : ℕ) (q : Seat) → k.hosts h ≡ Runs t q → OnlyOf t (H.picks_of p s c (event_ticks k (Acts h)))
+  only_event : (k : Hosts) (c : Core) (h t : ℕ) (q : Seat) → k.hosts h ≡ Runs t q
+      → OnlyOf t (ThePicks.picks_of p s c (event_ticks k (Acts h)))
   only_event k c h t q e =
-      on_test (nat_lt h 256) _ _ (λ l. OnlyOf t (H.picks_of p s c l))
-      (λ y. subst (λ x. OnlyOf t (H.picks_of p s c (host_ticks x))) (sym e)
+      on_test (nat_lt h 256) _ _ (λ l. OnlyOf t (ThePicks.picks_of p s c l))
+      (λ y. subst (λ x. OnlyOf t (ThePicks.picks_of p s c (host_ticks x))) (sym e)
       (subst (OnlyOf t) (sym (append_none (tick_picks p s c t))) (only_tick (is_some (c.words).end) (tick_steps p s c t))))
       (λ y. tt)
     where
@@ -927,11 +942,12 @@ module _ (p : CastScript) (s : Settings) where
 
 pub hosts_more : HostsMore
 hosts_more p pok s events e =
-    let k = H.after_events p s hosts_start events in
-    let ticks = H.ticks_of p s hosts_start events in
+    let k = TheHosts.after_events p s hosts_start events in
+    let ticks = TheHosts.ticks_of p s hosts_start events in
     let c = after_ticks p s (core_start p) ticks in (
       events_more p s hosts_start events e,
       happens_grow p pok s k c (events_ok p pok s hosts_start (core_start p) (start_held p pok s) events) e,
-      ap (H.picks_of p s (core_start p)) (ticks_append p s hosts_start events e) ∙ picks_append p s (core_start p) ticks (event_ticks k e),
+      ap (ThePicks.picks_of p s (core_start p)) (ticks_append p s hosts_start events e)
+          ∙ picks_append p s (core_start p) ticks (event_ticks k e),
       (λ h t q x. only_event p s k c h t q x),
     )

@@ -31,9 +31,10 @@ use Rattle.cast_machine.proofs.Obligations.{HereOk, Kept, heap_after, results_af
 use Rattle.cast_machine.specs.WorkTyping.{IsWellTypedTop}
 use Rattle.cast_machine.proofs.Rows.{ActOk, act_ok}
 use Rattle.cast_machine.proofs.ThreadLists.{length-slice_set, results_at, results_length, set_again, set_append, set_here}
-use Rattle.word_machine.specs.Words.{Words, result_at, Micro, Quick, Filling, Seeing, Seat, deep, after, moves, halts, Core, thread_of}
-use Rattle.word_machine.specs.Words.{threads_of, reveal, stands}
 use Rattle.word_machine.specs.Follows.{Matches}
+use Rattle.word_machine.specs.Seats.{Micro, Quick, Filling, Seeing, Seat, deep, after, moves, halts}
+use Rattle.word_machine.specs.Ticks.{Core, thread_of, threads_of, reveal, stands}
+use Rattle.word_machine.specs.Words.{Words, result_at}
 use Rattle.word_machine.proofs.CoreOk.{res, threads_get, threads_set, threads_length, fin, fin_seat, fin_grows, Finishes, threads_new}
 use Rattle.word_machine.proofs.CoreOk.{SeatBy, CoreOk, Keeps, keeps_refl, core_ok, ShownOk, CountsOk, counts_keep, counts_begin}
 

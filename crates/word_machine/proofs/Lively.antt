@@ -32,17 +32,17 @@ use Rattle.cast_machine.specs.Typing.{IsWellTypedState, around}
 use Rattle.cast_machine.specs.WorkTyping.{IsWellTypedTop}
 use Rattle.cast_machine.proofs.Heap.{length-update, on_test}
 use Rattle.cast_machine.proofs.ThreadLists.{set_cases, end_cases}
-use Rattle.word_machine.specs.Tops.{Top, TLocal, TMiss, TCell, TBlind, TNew, TPrint, TLook, TLeave, TJoin, TBegin, top_of, own, lift}
-use Rattle.word_machine.specs.Tops.{TopSays}
-use Rattle.word_machine.specs.Words as W
-use Rattle.word_machine.specs.Words.{Words, Answer, Kept, Full, Word, Differs, Counts, Drawn, Ends, Result, Micro, Quick, Seen, Count}
-use Rattle.word_machine.specs.Words.{Filling, Seeing, Seat, Next, NLocal, NRest, NWants, NBegins, Core, deep, after, moves, halts, turns}
-use Rattle.word_machine.specs.Words.{filling, put_begun, fresh_seat, stands, apply, acted, answered, tick_seat, tick, next_top, resume_top}
-use Rattle.word_machine.specs.Words.{next_action, resume}
-use Rattle.word_machine.specs.Follows.{core_start}
-use Rattle.word_machine.specs.Hosts.{after_events, after_ticks, ticks_of, hosts_start}
+use Rattle.word_machine.specs.Hosts.{after_events, ticks_of, hosts_start}
+use Rattle.word_machine.specs.Rests.{MayRest, RestsRight, NeverRests}
+use Rattle.word_machine.specs.Seats.{Micro, Quick, Seen, Count, Filling, Seeing, Seat, Next, NLocal, NRest, NWants, NBegins, deep, after}
+use Rattle.word_machine.specs.Seats.{moves, halts, turns, filling, put_begun, fresh_seat, next_top, resume_top, next_action, resume}
+use Rattle.word_machine.specs.Ticks.{Core, stands, acted, answered, tick_seat, tick, core_start, after_ticks}
+use Rattle.word_machine.specs.TopRows.{lift, TopSays}
+use Rattle.word_machine.specs.Tops.{Top, TLocal, TMiss, TCell, TBlind, TNew, TPrint, TLook, TLeave, TJoin, TBegin, top_of, own}
+use Rattle.word_machine.specs.Words.{Words, Answer, Kept, Full, Word, Differs, Counts, Drawn, Ends, Result, apply}
+use Rattle.word_machine.specs.Seats as TheSeats
+use Rattle.word_machine.specs.Words as TheWords
 use Rattle.cast_machine.specs.RunLimits.{HasSmallBlocks}
-use Rattle.word_machine.specs.Lively.{MayRest, RestsRight, NeverRests}
 use Rattle.word_machine.proofs.Saying.{says}
 use Rattle.word_machine.proofs.Waiting.{field_gone, top_value}
 use Rattle.word_machine.proofs.CoreOk.{fin, Finishes, seen_grows, SeatBy, CoreOk}
@@ -114,10 +114,12 @@ unbound_length A (b ∷ l) = ap suc (unbound_length A l)
 first_shallow : (a b z : ℕ) → a ≤ 4096 → b ≤ 4096 → z ≡ 1 + (a + (b + 2)) → nat_lt 16384 (z + 0) ≡ false
 first_shallow a b z i j e = grind arith
 
-fresh_lively : (p : CastScript) → HasSmallBlocks p → (g : ℕ) (d : CastFunction) → slice_get p.functions g ≡ Some d → (m : Ty) (args : List Val)
+fresh_lively : (p : CastScript) → HasSmallBlocks p → (g : ℕ) (d : CastFunction) → slice_get p.functions g ≡ Some d
+    → (m : Ty) (args : List Val)
     → Lively p (fresh_seat d m args)
 fresh_lively p small g d at m args = (
-  first_shallow (length (d.block).names) (length (d.block).threads) (frame_items (called d m args)) (small.functions g d at).0 (small.functions g d at).1
+  first_shallow (length (d.block).names) (length (d.block).threads) (frame_items (called d m args)) (small.functions g d at).0
+      (small.functions g d at).1
       (ap (λ n. 1 + (n + (length (unbound {A = ℕ} (d.block).threads) + 2))) (bind_length d.params args (unbound (d.block).names)
       ∙ unbound_length Val (d.block).names)
       ∙ ap (λ n. 1 + (length (d.block).names + (n + 2))) (unbound_length ℕ (d.block).threads)),
@@ -157,7 +159,7 @@ module _ (p : CastScript) (small : HasSmallBlocks p) (s : Settings) where
 
     -- a look whose verdict sets arms the exchange
     looked_on : (m : Micro) → Lively p (q m) → (b : ℕ) (x : List ℕ) (v : Cell → Verdict) → top_of p item g0 ≡ TCell b x v
-        → (d : Cell) (y : Verdict) → v d ≡ y → Lively p (W.looked p s (q m) below d y)
+        → (d : Cell) (y : Verdict) → v d ≡ y → Lively p (TheSeats.looked p s (q m) below d y)
     looked_on m l b x v e d verdict.NoRow i = l
     looked_on m l b x v e d (verdict.Goes g) i = moves_on (q m) Quick (state.Running g below) refl
     looked_on m l b x v e d (verdict.Fails z) i = moves_on (q m) Quick (state.Failing z) refl
@@ -169,31 +171,31 @@ module _ (p : CastScript) (small : HasSmallBlocks p) (s : Settings) where
         go false dp = (l.0, subst (λ w. ArmedWork p d f below w) (sym top) (subst (λ T. ArmedTop d below T) (sym e) (new, g, i, dp)))
 
     looked_at_on : (m : Micro) → Lively p (q m) → (b : ℕ) (x : List ℕ) (v : Cell → Verdict) → top_of p item g0 ≡ TCell b x v
-        → (o : Option Cell) → Lively p (W.looked_at p s (q m) below v o)
+        → (o : Option Cell) → Lively p (TheSeats.looked_at p s (q m) below v o)
     looked_at_on m l b x v e None = l
     looked_at_on m l b x v e (Some d) = looked_on m l b x v e d (v d) refl
 
-    exchanged_on : (m : Micro) → Lively p (q m) → (y : Verdict) → Lively p (W.exchanged p s (q m) below y)
+    exchanged_on : (m : Micro) → Lively p (q m) → (y : Verdict) → Lively p (TheSeats.exchanged p s (q m) below y)
     exchanged_on m l verdict.NoRow = l
     exchanged_on m l (verdict.Goes g) = l
     exchanged_on m l (verdict.Fails e) = l
     exchanged_on m l (verdict.Sets new g) = moves_on (q m) Quick (state.Running g below) refl
 
-    went_on : (m : Micro) → Lively p (q m) → (o : Option State) → Lively p (W.went_own p s (q m) o)
+    went_on : (m : Micro) → Lively p (q m) → (o : Option State) → Lively p (TheSeats.went_own p s (q m) o)
     went_on m l None = l
     went_on m l (Some st) = moves_on (q m) Quick st refl
 
-    left_on : (m : Micro) → Lively p (q m) → (o : Option Ty) (vs : List Val) → Lively p (W.left_as p s (q m) o vs)
+    left_on : (m : Micro) → Lively p (q m) → (o : Option Ty) (vs : List Val) → Lively p (TheSeats.left_as p s (q m) o vs)
     left_on m l None vs = moves_on (q m) Quick state.Stopped refl
     left_on m l (Some T) [] = l
     left_on m l (Some T) (v ∷ vs) = moves_on (q m) Quick (state.Finished v) refl
 
-    sees_on : (m : Micro) → Lively p (q m) → (c : ℕ) → Lively p (W.sees p s (q m) m g0 c)
+    sees_on : (m : Micro) → Lively p (q m) → (c : ℕ) → Lively p (TheSeats.sees p s (q m) m g0 c)
     sees_on (Seeing [] j) l c = turned (Seeing [] j) (Seeing [] c) l refl
     sees_on (Seeing (u ∷ left) j) l c = turned (Seeing (u ∷ left) j) (Seeing f.started c) l refl
     sees_on m l c = turned m (Seeing f.started c) l refl
 
-    saw_on : (m : Micro) → Lively p (q m) → (o : Option Val) → Lively p (W.saw p s (q m) m o)
+    saw_on : (m : Micro) → Lively p (q m) → (o : Option Val) → Lively p (TheSeats.saw p s (q m) m o)
     saw_on (Seeing (u ∷ left) c) l (Some v) = turned (Seeing (u ∷ left) c) (Seeing left c) l refl
     saw_on m l o = turned m Quick l refl
 
@@ -231,26 +233,26 @@ module _ (p : CastScript) (small : HasSmallBlocks p) (s : Settings) where
     resumed_on m l (TBegin x j d M args g) e (Drawn u) = moves_on (q m) Quick (state.Running (put_begun g x u) below) refl
     resumed_on m l T e r = l
 
-    own_next : (m : Micro) (o : Option State) → LivelyNext p (W.goes_own p s t (q m) o)
+    own_next : (m : Micro) (o : Option State) → LivelyNext p (TheSeats.goes_own p s t (q m) o)
     own_next m None = tt
     own_next m (Some st) = moves_on (q m) Quick st refl
 
-    miss_next : (m : Micro) (k : Option ℕ) → LivelyNext p (W.misses p s t (q m) k)
+    miss_next : (m : Micro) (k : Option ℕ) → LivelyNext p (TheSeats.misses p s t (q m) k)
     miss_next m None = tt
     miss_next m (Some k) = moves_on (q m) Quick (state.Failing (ends.Blame k)) refl
 
-    armed_next : (m : Micro) (b : ℕ) (x : List ℕ) (d : Cell) (y : Verdict) → LivelyNext p (W.armed p s t (q m) below b x d y)
+    armed_next : (m : Micro) (b : ℕ) (x : List ℕ) (d : Cell) (y : Verdict) → LivelyNext p (TheSeats.armed p s t (q m) below b x d y)
     armed_next m b x d verdict.NoRow = tt
     armed_next m b x d (verdict.Goes g) = tt
     armed_next m b x d (verdict.Fails e) = tt
     armed_next m b x d (verdict.Sets new g) = on_test (deep (state.Running g below)) _ _ (λ r. LivelyNext p r) (λ e. tt) (λ e. tt)
 
-    leave_next : (m : Micro) (vs : List Val) (bl : List Frame) → LivelyNext p (W.leaves_to p s t (q m) vs bl)
+    leave_next : (m : Micro) (vs : List Val) (bl : List Frame) → LivelyNext p (TheSeats.leaves_to p s t (q m) vs bl)
     leave_next m [] bl = tt
     leave_next m (v ∷ vs) [] = tt
     leave_next m (v ∷ vs) (g ∷ bl) = moves_on (q m) Quick (state.Running (has (v ∷ g.values) g) bl) refl
 
-    leaves_next : (m : Micro) (c : ℕ) (o : Option Ty) → LivelyNext p (W.leaves p s t (q m) g0 below c o)
+    leaves_next : (m : Micro) (c : ℕ) (o : Option Ty) → LivelyNext p (TheSeats.leaves p s t (q m) g0 below c o)
     leaves_next m c None = tt
     leaves_next m c (Some T) = leave_next m f.values below
 
@@ -277,19 +279,19 @@ module _ (p : CastScript) (small : HasSmallBlocks p) (s : Settings) where
     next_on m (TBegin x j d M args g) c say = tt
 
   work_next : (t : ℕ) (a : Option Ty) (f : Frame) (below : List Frame) (n : ℕ) (m : Micro) (w : List Work) → f.work ≡ w
-      → LivelyNext p (W.next_work p s t (record { asked = a; state = state.Running f below; steps = n; micro = m }) m f below w)
+      → LivelyNext p (TheSeats.next_work p s t (record { asked = a; state = state.Running f below; steps = n; micro = m }) m f below w)
   work_next t a f below n m [] e = tt
   work_next t a f below n m (i ∷ is) e = next_on t a f below n i is e m (top_of p i (record f { work = is }))
       (Rattle.word_machine.specs.Tops.alone s) (says p (Rattle.word_machine.specs.Tops.alone s) (record f { work = is }) below i)
 
   work_resumed : (t : ℕ) (a : Option Ty) (f : Frame) (below : List Frame) (n : ℕ) (m : Micro)
       → Lively p (record { asked = a; state = state.Running f below; steps = n; micro = m }) → (w : List Work) → f.work ≡ w → (r : Answer)
-      → Lively p (W.resume_work p s (record { asked = a; state = state.Running f below; steps = n; micro = m }) m f below w r)
+      → Lively p (TheSeats.resume_work p s (record { asked = a; state = state.Running f below; steps = n; micro = m }) m f below w r)
   work_resumed t a f below n m l [] e r = l
   work_resumed t a f below n m l (i ∷ is) e r = resumed_on t a f below n i is e m l (top_of p i (record f { work = is })) refl r
 
   end_resumed : (a : Option Ty) (x : End) (n : ℕ) (m : Micro) (r : Answer)
-      → Lively p (W.resume_end p s (record { asked = a; state = state.Failing x; steps = n; micro = m }) r)
+      → Lively p (TheSeats.resume_end p s (record { asked = a; state = state.Failing x; steps = n; micro = m }) r)
   end_resumed a x n m Kept = (tt, tt)
   end_resumed a x n m (Ends None c) = (tt, tt)
   end_resumed a x n m (Ends (Some e) c) = (tt, tt)
@@ -398,12 +400,12 @@ module _ (p : CastScript) (pok : IsTypedProgram p) (s : Settings) (rs : List Ty)
   fits_on m i e = let w = without_item in not_deeper (m + frames_items below) (frame_items f + frames_items below) (omega (arith, w, i)) e
 
   own_goes : (m : Micro) → At m → Typed → act p c2 item g1 below ≡ lift (own p s item g1 below) → (o : Option State)
-      → own p s item g1 below ≡ o → rests (W.goes_own p s t (qq m) o) ≡ false
+      → own p s item g1 below ≡ o → rests (TheSeats.goes_own p s t (qq m) o) ≡ false
   own_goes m at i e None z = absurd (rowless m at i (e ∙ ap lift z))
   own_goes m at i e (Some st) z = refl
 
   pub miss_goes : (m : Micro) → At m → Typed → (o : Option ℕ) → TopSays p c2 item g1 below (TMiss o)
-      → rests (W.misses p s t (qq m) o) ≡ false
+      → rests (TheSeats.misses p s t (qq m) o) ≡ false
   miss_goes m at i (Some j) say = refl
   miss_goes m at i None say =
       let y = say.3 in
@@ -412,17 +414,18 @@ module _ (p : CastScript) (pok : IsTypedProgram p) (s : Settings) (rs : List Ty)
       absurd (rowless m at i (say.4 ∙ ap (λ o. settle say.0 say.1 (on_cell (blaming None) say.2 o) below) gone))
 
   armed_goes : (m : Micro) (b : ℕ) (x : List ℕ) (d : Cell) (v : Cell → Verdict) → ArmedTop d below (TCell b x v)
-      → rests (W.armed p s t (qq m) below b x d (v d)) ≡ false
-  armed_goes m b x d v i = subst (λ y. rests (W.armed p s t (qq m) below b x d y) ≡ false) (sym i.2)
-      (passes (deep (state.Running i.1 below)) NRest (NWants (W.AExchange b x d i.0)) i.3 refl)
+      → rests (TheSeats.armed p s t (qq m) below b x d (v d)) ≡ false
+  armed_goes m b x d v i = subst (λ y. rests (TheSeats.armed p s t (qq m) below b x d y) ≡ false) (sym i.2)
+      (passes (deep (state.Running i.1 below)) NRest (NWants (TheWords.AExchange b x d i.0)) i.3 refl)
 
   leave_goes : (c : ℕ) → At (Seeing [] c) → Typed
       → ((d : ℕ → Option Val) → Finishes (fin k.seats) d → SeatBy p rs d t h (typ a) (state.Running f below) (Seeing [] c))
-      → TopSays p c2 item g1 below TLeave → (o : Option Ty) → f.asked ≡ o → rests (W.leaves p s t (qq (Seeing [] c)) g1 below c o) ≡ false
+      → TopSays p c2 item g1 below TLeave → (o : Option Ty) → f.asked ≡ o → rests (TheSeats.leaves p s t (qq (Seeing [] c)) g1 below c o)
+      ≡ false
   leave_goes c at i pl say None e = refl
   leave_goes c at i pl say (Some T) e = go f.values refl below
     where
-      go : (vs : List Val) → f.values ≡ vs → (bl : List Frame) → rests (W.leaves_to p s t (qq (Seeing [] c)) vs bl) ≡ false
+      go : (vs : List Val) → f.values ≡ vs → (bl : List Frame) → rests (TheSeats.leaves_to p s t (qq (Seeing [] c)) vs bl) ≡ false
       go [] ev bl =
           absurd (rowless (Seeing [] c) at i
           (say ∙ ap (λ b. if b then leave_with f.values f.asked below else outcome.Waits)
@@ -442,11 +445,11 @@ module _ (p : CastScript) (pok : IsTypedProgram p) (s : Settings) (rs : List Ty)
   top_goes m at i pl sh (TBlind b x new g) say ar = on_test (deep (state.Running g below)) _ _ (λ r. rests r ≡ false) (λ e. refl)
       (λ e. refl)
   top_goes (Count c) at i pl sh (TNew o g) say ar =
-      passes (deep (state.Running (has (val.Nil ∷ g.values) g) below)) NRest (NWants (W.ADraw c (W.unfilled t o)))
+      passes (deep (state.Running (has (val.Nil ∷ g.values) g) below)) NRest (NWants (TheWords.ADraw c (TheSeats.unfilled t o)))
       (let l = say.2 in fits_on (frame_items (has (val.Nil ∷ g.values) g)) (omega (arith, l)) sh) refl
   top_goes m at i pl sh (TNew o g) say ar = refl
   top_goes m at i pl sh (TPrint args g) say ar =
-      passes (deep (state.Running g below)) NRest (NWants (W.APrint (W.guess m) args))
+      passes (deep (state.Running g below)) NRest (NWants (TheWords.APrint (TheSeats.guess m) args))
       (let l = say.1 in fits_on (frame_items g) (omega (arith, l)) sh) refl
   top_goes m at i pl sh TLook say ar = refl
   top_goes (Seeing [] c) at i pl sh TLeave say ar = leave_goes c at i pl say f.asked refl
@@ -465,7 +468,7 @@ module _ (p : CastScript) (pok : IsTypedProgram p) (s : Settings) (rs : List Ty)
       → IsWellTypedState p rs t (k.words).heap (typ a) (state.Running f below)
       → ((d : ℕ → Option Val) → Finishes (fin k.seats) d → SeatBy p rs d t (k.words).heap (typ a) (state.Running f below) m)
       → deep (state.Running f below) ≡ false → ((d : Cell) → m ≡ Seen d → ArmedWork p d f below f.work) → (w : List Work) → f.work ≡ w
-      → rests (W.next_work p s t (record { asked = a; state = state.Running f below; steps = n; micro = m }) m f below w) ≡ false
+      → rests (TheSeats.next_work p s t (record { asked = a; state = state.Running f below; steps = n; micro = m }) m f below w) ≡ false
   work_goes a f below n m at i pl sh ar [] e = absurd
       ((subst (λ w. IsWellTypedTop p (around (i.0).scope f.asked rs t) (k.words).heap [] w f.values (i.0).types) e (i.0).work).1)
   work_goes a f below n m at i pl sh ar (item ∷ is) e =

@@ -42,18 +42,21 @@ use Rattle.cast_machine.specs.Typing.{IsWellTypedState, around}
 use Rattle.cast_machine.specs.WorkTyping.{IsWellTypedTop}
 use Rattle.cast_machine.proofs.Heap.{length-update, nat_eq-refl, on_test}
 use Rattle.cast_machine.proofs.ThreadLists.{length-slice_set, set_here}
-use Rattle.word_machine.specs.Tops.{Top, TLocal, TMiss, TCell, TBlind, TNew, TPrint, TLook, TLeave, TJoin, TBegin, top_of, own, lift}
-use Rattle.word_machine.specs.Tops.{CellSays, TopSays}
-use Rattle.word_machine.specs.Words as W
-use Rattle.word_machine.specs.Words.{Words, Answer, Micro, Quick, Seen, Count, Filling, Seeing, Seat, Next, NLocal, NRest, NWants, NBegins}
-use Rattle.word_machine.specs.Words.{Core, deep, moves, turns, filling, guess, put_begun, fresh_seat, same_val, same_cell, thread_of}
-use Rattle.word_machine.specs.Words.{stands, acted, answered, tick_seat, tick, tick_steps, next_top, resume_top, next_action}
-use Rattle.word_machine.specs.Follows.{core_start, Matches, is_filling}
-use Rattle.word_machine.specs.Hosts.{after_ticks}
+use Rattle.word_machine.specs.Follows.{Matches, is_filling}
+use Rattle.word_machine.specs.Seats.{Micro, Quick, Seen, Count, Filling, Seeing, Seat, Next, NLocal, NRest, NWants, NBegins, deep, moves}
+use Rattle.word_machine.specs.Seats.{turns, filling, guess, put_begun, fresh_seat, next_top, resume_top, next_action}
+use Rattle.word_machine.specs.SeedOrder.{PicksByWords, SeededByWords}
+use Rattle.word_machine.specs.Ticks.{Core, thread_of, stands, acted, answered, tick_seat, tick, tick_steps, core_start, after_ticks}
+use Rattle.word_machine.specs.TopRows.{lift, CellSays, TopSays}
+use Rattle.word_machine.specs.Tops.{Top, TLocal, TMiss, TCell, TBlind, TNew, TPrint, TLook, TLeave, TJoin, TBegin, top_of, own}
+use Rattle.word_machine.specs.Words.{Words, Answer, same_val, same_cell}
+use Rattle.word_machine.specs.computed.Ranks.{solo, one_or_two, seen_rank, leave_rank, top_rank, work_rank, base_rank, seat_rank, rank_in}
+use Rattle.word_machine.specs.computed.Ranks.{rank}
+use Rattle.word_machine.specs.computed.SeededTicks.{all_results, work_runs, state_runs, runs_from, word_thread, word_pick, word_seeded}
+use Rattle.word_machine.specs.Seats as TheSeats
+use Rattle.word_machine.specs.Ticks as TheTicks
+use Rattle.word_machine.specs.Words as TheWords
 use Rattle.cast_machine.specs.RunLimits.{HasSmallBlocks}
-use Rattle.word_machine.specs.Solo.{solo, one_or_two, seen_rank, leave_rank, top_rank, work_rank, base_rank, seat_rank, rank_in, rank}
-use Rattle.word_machine.specs.Solo.{PicksByWords, all_results, work_runs, state_runs, runs_from, word_thread, word_pick, word_seeded}
-use Rattle.word_machine.specs.Solo.{SeededByWords}
 use Rattle.word_machine.proofs.Saying.{says}
 use Rattle.word_machine.proofs.Waiting.{field_there, top_value}
 use Rattle.word_machine.proofs.CoreOk.{threads_get, fin, all_fin, Finishes, seen_grows, SeatBy, CoreOk, FillOk}
@@ -144,10 +147,10 @@ module _ (p : CastScript) (pok : IsTypedProgram p) (s : Settings) (rs : List Ty)
         × (Rank T m' < Rank T m))
 
     abbrev NearAns : Top → Micro → Words × Answer → Type 0
-    NearAns T m r = Near T m (W.top_steps p s item g0 below T r.1) (answered s k t (resume_top p s (q m) m item g0 below T) r)
+    NearAns T m r = Near T m (TheTicks.top_steps p s item g0 below T r.1) (answered s k t (resume_top p s (q m) m item g0 below T) r)
 
     abbrev NearAct : Top → Micro → Next → Type 0
-    NearAct T m r = Near T m (W.next_steps p s k.words (length k.seats) (W.top_steps p s item g0 below T) r)
+    NearAct T m r = Near T m (TheTicks.next_steps p s k.words (length k.seats) (TheTicks.top_steps p s item g0 below T) r)
         (acted s k t (resume_top p s (q m) m item g0 below T) r)
 
     turned : (T : Top) (m m' : Micro) → is_filling m' ≡ false → Rank T m' < Rank T m
@@ -173,8 +176,8 @@ module _ (p : CastScript) (pok : IsTypedProgram p) (s : Settings) (rs : List Ty)
 
     near_looked : (m : Micro) → At m → (b : ℕ) (x : List ℕ) (v : Cell → Verdict) → TopSays p c2 item g0 below (TCell b x v) → (d : Cell)
         → cell_at h b x ≡ Some d → 1 < Rank (TCell b x v) m → (y : Verdict) → v d ≡ y
-        → Near (TCell b x v) m (W.verdict_steps below y)
-        (record { words = k.words; seats = slice_set k.seats t (W.looked p s (q m) below d y) })
+        → Near (TCell b x v) m (TheTicks.verdict_steps below y)
+        (record { words = k.words; seats = slice_set k.seats t (TheSeats.looked p s (q m) below d y) })
     near_looked m at b x v say d here l verdict.NoRow e = absurd
         (no_row m at (say.1 ∙ ap (λ o. settle b x (on_cell say.0 v o) below) here ∙ ap (λ z. settle b x z below) e))
     near_looked m at b x v say d here l (verdict.Goes g) e = inl refl
@@ -196,34 +199,34 @@ module _ (p : CastScript) (pok : IsTypedProgram p) (s : Settings) (rs : List Ty)
 
     near_word : (m : Micro) → At m → (b : ℕ) (x : List ℕ) (v : Cell → Verdict) → TopSays p c2 item g0 below (TCell b x v)
         → 1 < Rank (TCell b x v) m → (o : Option Cell) → cell_at h b x ≡ o
-        → Near (TCell b x v) m (W.look_steps below v o)
-        (record { words = k.words; seats = slice_set k.seats t (W.looked_at p s (q m) below v o) })
+        → Near (TCell b x v) m (TheTicks.look_steps below v o)
+        (record { words = k.words; seats = slice_set k.seats t (TheSeats.looked_at p s (q m) below v o) })
     near_word m at b x v say l None e = none_some _ (sym e ∙ (cell_there b x say.2).1)
     near_word m at b x v say l (Some d) e = near_looked m at b x v say d e l (v d) refl
 
     near_exchange : (d : Cell) → At (Seen d) → (b : ℕ) (x : List ℕ) (v : Cell → Verdict) → TopSays p c2 item g0 below (TCell b x v)
-        → (new : Cell) → (o : Option Cell) → cell_at h b x ≡ o → NearAns (TCell b x v) (Seen d) (W.exchange s k.words b x d new o)
+        → (new : Cell) → (o : Option Cell) → cell_at h b x ≡ o → NearAns (TCell b x v) (Seen d) (TheWords.exchange s k.words b x d new o)
     near_exchange d at b x v say new None e = none_some _ (sym e ∙ (cell_there b x say.2).1)
     near_exchange d at b x v say new (Some now) e = go (same_cell d now) refl
       where
         go : (z : Bool) → same_cell d now ≡ z
-            → NearAns (TCell b x v) (Seen d) (if z then (record k.words { heap = set_cell h b x new }, W.Kept)
-            else (k.words, W.Differs (Some now)))
+            → NearAns (TCell b x v) (Seen d) (if z then (record k.words { heap = set_cell h b x new }, TheWords.Kept)
+            else (k.words, TheWords.Differs (Some now)))
         go true z = inl refl
         go false z = near_looked (Seen d) at b x v say now e
             (subst (λ j. 1 < j) (sym (ap (seen_rank d) e ∙ ap one_or_two z)) (omega arith)) (v now) refl
 
     near_armed : (d : Cell) → At (Seen d) → (b : ℕ) (x : List ℕ) (v : Cell → Verdict) → TopSays p c2 item g0 below (TCell b x v)
-        → ArmedTop d below (TCell b x v) → NearAct (TCell b x v) (Seen d) (W.armed p s t (q (Seen d)) below b x d (v d))
+        → ArmedTop d below (TCell b x v) → NearAct (TCell b x v) (Seen d) (TheSeats.armed p s t (q (Seen d)) below b x d (v d))
     near_armed d at b x v say w =
-        subst (λ y. NearAct (TCell b x v) (Seen d) (W.armed p s t (q (Seen d)) below b x d y)) (sym w.2)
-        (subst (λ z. NearAct (TCell b x v) (Seen d) (if z then NRest else NWants (W.AExchange b x d w.0))) (sym w.3)
+        subst (λ y. NearAct (TCell b x v) (Seen d) (TheSeats.armed p s t (q (Seen d)) below b x d y)) (sym w.2)
+        (subst (λ z. NearAct (TCell b x v) (Seen d) (if z then NRest else NWants (TheWords.AExchange b x d w.0))) (sym w.3)
         (near_exchange d at b x v say w.0 (cell_at h b x) refl))
 
     -- ---- local steps, and a look at the end
 
     near_own : (m : Micro) → At m → act p c2 item g0 below ≡ lift (own p s item g0 below) → (o : Option State) → own p s item g0 below ≡ o
-        → NearAct TLocal m (W.goes_own p s t (q m) o)
+        → NearAct TLocal m (TheSeats.goes_own p s t (q m) o)
     near_own m at e None z = absurd (no_row m at (e ∙ ap lift z))
     near_own m at e (Some st) z = inl refl
 
@@ -233,8 +236,9 @@ module _ (p : CastScript) (pok : IsTypedProgram p) (s : Settings) (rs : List Ty)
     near_went m at e (Some st) z = refl
 
     -- no end is there
-    no_end : (T : Top) (m : Micro) → NearAns T m (k.words, W.Ends None (words_of (k.words).lines)) → (e : Option End) → (k.words).end ≡ e
-        → NearAns T m (k.words, W.Ends e (words_of (k.words).lines))
+    no_end : (T : Top) (m : Micro) → NearAns T m (k.words, TheWords.Ends None (words_of (k.words).lines)) → (e : Option End)
+        → (k.words).end ≡ e
+        → NearAns T m (k.words, TheWords.Ends e (words_of (k.words).lines))
     no_end T m x None e = x
     no_end T m x (Some z) e = none_some _ (sym none ∙ e)
 
@@ -246,28 +250,30 @@ module _ (p : CastScript) (pok : IsTypedProgram p) (s : Settings) (rs : List Ty)
     two_differ : (c w : ℕ) → nat_eq c w ≡ false → one_or_two (nat_eq w w) < one_or_two (nat_eq c w)
     two_differ c w e = subst (λ j. j < one_or_two (nat_eq c w)) (sym (one_same w)) (subst (λ b. 1 < one_or_two b) (sym e) (omega arith))
 
-    near_draw : (c : ℕ) (o : Object) (g : Frame) → NearAns (TNew o g) (Count c) (W.apply s k.words (W.ADraw c (W.unfilled t o)))
-    near_draw c o g = go (nat_eq c (heap_size h)) refl (nat_le (heap_size h + size (W.unfilled t o)) s.heap)
+    near_draw : (c : ℕ) (o : Object) (g : Frame)
+        → NearAns (TNew o g) (Count c) (TheWords.apply s k.words (TheWords.ADraw c (TheSeats.unfilled t o)))
+    near_draw c o g = go (nat_eq c (heap_size h)) refl (nat_le (heap_size h + size (TheSeats.unfilled t o)) s.heap)
       where
         go : (b : Bool) → nat_eq c (heap_size h) ≡ b → (r : Bool)
             → NearAns (TNew o g) (Count c)
-            (if b then (if r then (record k.words { heap = h ++ W.unfilled t o ∷ [] }, W.Drawn (heap_size h)) else (k.words, W.Full))
-            else (k.words, W.Counts (heap_size h)))
+            (if b then (if r then (record k.words { heap = h ++ TheSeats.unfilled t o ∷ [] }, TheWords.Drawn (heap_size h))
+            else (k.words, TheWords.Full))
+            else (k.words, TheWords.Counts (heap_size h)))
         go true z true = inl refl
         go true z false = inl refl
         go false z r = turned (TNew o g) (Count c) (Count (heap_size h)) refl (two_differ c (heap_size h) z)
 
     near_print : (c : ℕ) (m : Micro) (args : List Val) (g : Frame)
         → (nat_eq c (words_of (k.words).lines) ≡ false → one_or_two (nat_eq (words_of (k.words).lines) (words_of (k.words).lines)) < Rank
-        (TPrint args g) m) → (o : Option End) → (k.words).end ≡ o → NearAns (TPrint args g) m (W.draw_print s k.words c args o)
+        (TPrint args g) m) → (o : Option End) → (k.words).end ≡ o → NearAns (TPrint args g) m (TheWords.draw_print s k.words c args o)
     near_print c m args g l (Some z) e = none_some _ (sym none ∙ e)
     near_print c m args g l None e = go (nat_eq c (words_of (k.words).lines)) refl
         (nat_le (words_of (k.words).lines + (length args + 1)) s.print)
       where
         go : (b : Bool) → nat_eq c (words_of (k.words).lines) ≡ b → (r : Bool)
             → NearAns (TPrint args g) m
-            (if b then (if r then (record k.words { lines = (k.words).lines ++ args ∷ [] }, W.Drawn (words_of (k.words).lines))
-            else (k.words, W.Full)) else (k.words, W.Ends None (words_of (k.words).lines)))
+            (if b then (if r then (record k.words { lines = (k.words).lines ++ args ∷ [] }, TheWords.Drawn (words_of (k.words).lines))
+            else (k.words, TheWords.Full)) else (k.words, TheWords.Ends None (words_of (k.words).lines)))
         go true z true = inl refl
         go true z false = inl refl
         go false z r = turned (TPrint args g) m (Count (words_of (k.words).lines)) refl (l z)
@@ -284,41 +290,43 @@ module _ (p : CastScript) (pok : IsTypedProgram p) (s : Settings) (rs : List Ty)
 
         go : (b : Bool) → nat_eq c (length k.seats) ≡ b → (r : Bool) →
             Near (TBegin x j d M args g) (Count c)
-            (W.top_steps p s item g0 below (TBegin x j d M args g) (if b then (if r then W.Full else W.Drawn (length k.seats))
-            else W.Counts (length k.seats)))
+            (TheTicks.top_steps p s item g0 below (TBegin x j d M args g)
+            (if b then (if r then TheWords.Full else TheWords.Drawn (length k.seats))
+            else TheWords.Counts (length k.seats)))
             (if b then (if r then answered s k t (resume_top p s (q (Count c)) (Count c) item g0 below (TBegin x j d M args g))
-            (k.words, W.Full)
+            (k.words, TheWords.Full)
             else record {
               words = k.words;
               seats = slice_set k.seats t (resume_top p s (q (Count c)) (Count c) item g0 below (TBegin x j d M args g)
-                  (W.Drawn (length k.seats))) ++ fresh_seat d M args ∷ [];
+                  (TheWords.Drawn (length k.seats))) ++ fresh_seat d M args ∷ [];
             })
             else answered s k t (resume_top p s (q (Count c)) (Count c) item g0 below (TBegin x j d M args g))
-            (k.words, W.Counts (length k.seats)))
+            (k.words, TheWords.Counts (length k.seats)))
         go true z true = inl refl
         go true z false = inl refl
         go false z r = turned (TBegin x j d M args g) (Count c) (Count (length k.seats)) refl (two_differ c (length k.seats) z)
 
     -- ---- leaving
 
-    near_done : (c : ℕ) → (o : Option End) → (k.words).end ≡ o → NearAns TLeave (Seeing [] c) (W.record_end s k.words c ends.Done o)
+    near_done : (c : ℕ) → (o : Option End) → (k.words).end ≡ o → NearAns TLeave (Seeing [] c) (TheWords.record_end s k.words c ends.Done o)
     near_done c (Some z) e = none_some _ (sym none ∙ e)
     near_done c None e = go (nat_eq c (words_of (k.words).lines)) refl
       where
         go : (b : Bool) → nat_eq c (words_of (k.words).lines) ≡ b
-            → NearAns TLeave (Seeing [] c) (if b then (record k.words { end = Some ends.Done }, W.Kept)
-            else (k.words, W.Ends None (words_of (k.words).lines)))
+            → NearAns TLeave (Seeing [] c) (if b then (record k.words { end = Some ends.Done }, TheWords.Kept)
+            else (k.words, TheWords.Ends None (words_of (k.words).lines)))
         go true z = inl refl
         go false z = turned TLeave (Seeing [] c) (Seeing [] (words_of (k.words).lines)) refl (two_differ c (words_of (k.words).lines) z)
 
     near_leaves : (c : ℕ) → At (Seeing [] c)
         → ((d : ℕ → Option Val) → Finishes (fin k.seats) d → SeatBy p rs d t h (typ a) (state.Running f below) (Seeing [] c))
         → TopSays p c2 item g0 below TLeave → (o : Option Ty) → f.asked ≡ o
-        → NearAct TLeave (Seeing [] c) (W.leaves p s t (q (Seeing [] c)) g0 below c o)
+        → NearAct TLeave (Seeing [] c) (TheSeats.leaves p s t (q (Seeing [] c)) g0 below c o)
     near_leaves c at pl say None e = near_done c (k.words).end refl
     near_leaves c at pl say (Some T) e = go f.values refl below
       where
-        go : (vs : List Val) → f.values ≡ vs → (bl : List Frame) → NearAct TLeave (Seeing [] c) (W.leaves_to p s t (q (Seeing [] c)) vs bl)
+        go : (vs : List Val) → f.values ≡ vs → (bl : List Frame)
+            → NearAct TLeave (Seeing [] c) (TheSeats.leaves_to p s t (q (Seeing [] c)) vs bl)
         go [] ev bl =
             absurd (no_row (Seeing [] c) at
             (say ∙ ap (λ b. if b then leave_with f.values f.asked below else outcome.Waits)
@@ -328,14 +336,14 @@ module _ (p : CastScript) (pok : IsTypedProgram p) (s : Settings) (rs : List Ty)
         go (v ∷ vs) ev (g ∷ bl) = inl refl
 
     near_saw : (u : ℕ) (left : List ℕ) (c : ℕ) (v : Val) (o : Option Val) → o ≡ Some v
-        → NearAns TLeave (Seeing (u ∷ left) c) (k.words, W.Result o)
+        → NearAns TLeave (Seeing (u ∷ left) c) (k.words, TheWords.Result o)
     near_saw u left c v None e = none_some _ e
     near_saw u left c v (Some w) e = turned TLeave (Seeing (u ∷ left) c) (Seeing left c) refl
         (let l = leave_low c (words_of (k.words).lines) left in omega (arith, l))
 
     near_sees : (m : Micro) → Rank TLeave m ≡ 4 + length f.started
-        → W.sees p s (q m) m g0 (words_of (k.words).lines) ≡ q (Seeing f.started (words_of (k.words).lines))
-        → NearAns TLeave m (k.words, W.Ends (k.words).end (words_of (k.words).lines))
+        → TheSeats.sees p s (q m) m g0 (words_of (k.words).lines) ≡ q (Seeing f.started (words_of (k.words).lines))
+        → NearAns TLeave m (k.words, TheWords.Ends (k.words).end (words_of (k.words).lines))
     near_sees m e z =
         no_end TLeave m
         (subst (λ r. Near TLeave m false (record { words = k.words; seats = slice_set k.seats t r })) (sym z)
@@ -344,7 +352,7 @@ module _ (p : CastScript) (pok : IsTypedProgram p) (s : Settings) (rs : List Ty)
         (let l = leave_low (words_of (k.words).lines) (words_of (k.words).lines) f.started in omega (arith, l)))))
         (k.words).end refl
 
-    near_join : (m : Micro) (u : ℕ) (v : Val) (o : Option Val) → o ≡ Some v → NearAns (TJoin u) m (k.words, W.Result o)
+    near_join : (m : Micro) (u : ℕ) (v : Val) (o : Option Val) → o ≡ Some v → NearAns (TJoin u) m (k.words, TheWords.Result o)
     near_join m u v None e = none_some _ e
     near_join m u v (Some w) e = inl refl
 
@@ -368,18 +376,19 @@ module _ (p : CastScript) (pok : IsTypedProgram p) (s : Settings) (rs : List Ty)
     near_top m at pl (TBlind b x new g) say rd ar = on_test (deep (state.Running g below)) _ _ (λ r. NearAct (TBlind b x new g) m r)
         (λ e. inl refl) (λ e. inl refl)
     near_top (Count c) at pl (TNew o g) say rd ar =
-        shallow_act (TNew o g) (Count c) (deep (state.Running (has (val.Nil ∷ g.values) g) below)) (NWants (W.ADraw c (W.unfilled t o)))
+        shallow_act (TNew o g) (Count c) (deep (state.Running (has (val.Nil ∷ g.values) g) below))
+        (NWants (TheWords.ADraw c (TheSeats.unfilled t o)))
         (let l = say.2 in fits_on p pok s rs k ok t a f below n item is top (frame_items (has (val.Nil ∷ g.values) g))
         (omega (arith, l)) sh)
         (near_draw c o g)
     near_top m at pl (TNew o g) say rd ar = no_end (TNew o g) m
         (turned (TNew o g) m (Count 0) refl (low (nat_eq 0 (heap_size h)) (length f.started))) (k.words).end refl
     near_top (Count c) at pl (TPrint args g) say rd ar =
-        shallow_act (TPrint args g) (Count c) (deep (state.Running g below)) (NWants (W.APrint c args))
+        shallow_act (TPrint args g) (Count c) (deep (state.Running g below)) (NWants (TheWords.APrint c args))
         (let l = say.1 in fits_on p pok s rs k ok t a f below n item is top (frame_items g) (omega (arith, l)) sh)
         (near_print c (Count c) args g (λ e. two_differ c (words_of (k.words).lines) e) (k.words).end refl)
     near_top m at pl (TPrint args g) say rd ar =
-        shallow_act (TPrint args g) m (deep (state.Running g below)) (NWants (W.APrint 0 args))
+        shallow_act (TPrint args g) m (deep (state.Running g below)) (NWants (TheWords.APrint 0 args))
         (let l = say.1 in fits_on p pok s rs k ok t a f below n item is top (frame_items g) (omega (arith, l)) sh)
         (near_print 0 m args g (λ e. low (nat_eq (words_of (k.words).lines) (words_of (k.words).lines)) (length f.started))
         (k.words).end refl)
@@ -388,9 +397,9 @@ module _ (p : CastScript) (pok : IsTypedProgram p) (s : Settings) (rs : List Ty)
     near_top (Seeing (u ∷ left) c) at pl TLeave say rd ar =
         let w = (pl (fin k.seats) (λ u v e. e)).1 in
         let v = all_at (fin k.seats) w.0 u left (subst (λ l. all_fin (fin k.seats) l ≡ true) w.1 rd) in
-        near_saw u left c v.0 (W.result_at (k.words).results u) ((ok.counts).results u ∙ v.1)
+        near_saw u left c v.0 (TheWords.result_at (k.words).results u) ((ok.counts).results u ∙ v.1)
     near_top m at pl TLeave say rd ar = near_sees m refl refl
-    near_top (Count c) at pl (TJoin u) say rd ar = near_join (Count c) u rd.0 (W.result_at (k.words).results u)
+    near_top (Count c) at pl (TJoin u) say rd ar = near_join (Count c) u rd.0 (TheWords.result_at (k.words).results u)
         ((ok.counts).results u ∙ rd.1)
     near_top m at pl (TJoin u) say rd ar = no_end (TJoin u) m (turned (TJoin u) m (Count (words_of (k.words).lines)) refl (omega arith))
         (k.words).end refl
@@ -459,10 +468,10 @@ module _ (p : CastScript) (pok : IsTypedProgram p) (s : Settings) (rs : List Ty)
       → ((d : ℕ → Option Val) → Finishes (fin k.seats) d → SeatBy p rs d t h (typ a) (state.Running f below) m)
       → deep (state.Running f below) ≡ false → ((d : Cell) → m ≡ Seen d → ArmedWork p d f below f.work) → (w : List Work) → f.work ≡ w →
       Nearer (seat_rank p k.words (length k.seats) m (state.Running f below))
-      (W.next_steps p s k.words (length k.seats) (W.work_steps p s f below w)
-      (W.next_work p s t (record { asked = a; state = state.Running f below; steps = n; micro = m }) m f below w))
-      (acted s k t (W.resume_work p s (record { asked = a; state = state.Running f below; steps = n; micro = m }) m f below w)
-      (W.next_work p s t (record { asked = a; state = state.Running f below; steps = n; micro = m }) m f below w))
+      (TheTicks.next_steps p s k.words (length k.seats) (TheTicks.work_steps p s f below w)
+      (TheSeats.next_work p s t (record { asked = a; state = state.Running f below; steps = n; micro = m }) m f below w))
+      (acted s k t (TheSeats.resume_work p s (record { asked = a; state = state.Running f below; steps = n; micro = m }) m f below w)
+      (TheSeats.next_work p s t (record { asked = a; state = state.Running f below; steps = n; micro = m }) m f below w))
   running c e a f below n m nf at i pl sh ar [] top = absurd
       ((subst (λ w. IsWellTypedTop p (around (i.0).scope f.asked rs t) h [] w f.values (i.0).types) top (i.0).work).1)
   running c e a f below n m nf at i pl sh ar (item ∷ is) top =
@@ -481,19 +490,19 @@ module _ (p : CastScript) (pok : IsTypedProgram p) (s : Settings) (rs : List Ty)
       (λ d y. subst (λ w. ArmedWork p d f below w) top (ar d y)))
 
   abbrev Fails : Option Ty → End → ℕ → Micro → ℕ → Words × Answer → Type 0
-  Fails a x n m r y = Nearer r (W.end_steps p s y.1)
-      (answered s k t (W.resume_end p s (record { asked = a; state = state.Failing x; steps = n; micro = m })) y)
+  Fails a x n m r y = Nearer r (TheTicks.end_steps p s y.1)
+      (answered s k t (TheSeats.resume_end p s (record { asked = a; state = state.Failing x; steps = n; micro = m })) y)
 
   failing : (a : Option Ty) (x : End) (n : ℕ) (m : Micro) → is_filling m ≡ false
       → slice_get k.seats t ≡ Some (record { asked = a; state = state.Failing x; steps = n; micro = m }) → (o : Option End)
       → (k.words).end ≡ o →
-      Fails a x n m (one_or_two (nat_eq (guess m) (words_of (k.words).lines))) (W.record_end s k.words (guess m) x o)
+      Fails a x n m (one_or_two (nat_eq (guess m) (words_of (k.words).lines))) (TheWords.record_end s k.words (guess m) x o)
   failing a x n m nf at (Some z) e = none_some _ (sym none ∙ e)
   failing a x n m nf at None e = go (nat_eq (guess m) (words_of (k.words).lines)) refl
     where
       go : (b : Bool) → nat_eq (guess m) (words_of (k.words).lines) ≡ b →
-          Fails a x n m (one_or_two b) (if b then (record k.words { end = Some x }, W.Kept)
-          else (k.words, W.Ends None (words_of (k.words).lines)))
+          Fails a x n m (one_or_two b) (if b then (record k.words { end = Some x }, TheWords.Kept)
+          else (k.words, TheWords.Ends None (words_of (k.words).lines)))
       go true z = inl refl
       go false z = inr
           (subst (λ j. j < 2)
@@ -532,7 +541,7 @@ module _ (p : CastScript) (pok : IsTypedProgram p) (s : Settings) (rs : List Ty)
       → slice_get k.seats t ≡ Some (record { asked = a; state = st; steps = n; micro = Filling b left }) → nat_eq left 0 ≡ false
       → rank p (tick_seat p s k t (Some (record { asked = a; state = st; steps = n; micro = Filling b left }))) t < base_rank st + left
   filled a st n b left at e =
-      let w = (W.apply s k.words (W.AFill b)).0 in
+      let w = (TheWords.apply s k.words (TheWords.AFill b)).0 in
       subst (λ j. j < base_rank st + left)
       (sym (rank_after w (record { asked = a; state = st; steps = n; micro = Filling b left })
       (record { asked = a; state = st; steps = n; micro = filling b (left - 1) }) at)) (go w left e)
@@ -554,7 +563,7 @@ module _ (p : CastScript) (pok : IsTypedProgram p) (s : Settings) (rs : List Ty)
   unfolding step_of
   no_seat e = ap (λ o. step_at p t o (stands s k)) (gone k.seats t e)
     where
-      gone : (l : List Seat) (u : ℕ) → slice_get l u ≡ None → slice_get (W.threads_of l) u ≡ None
+      gone : (l : List Seat) (u : ℕ) → slice_get l u ≡ None → slice_get (TheTicks.threads_of l) u ≡ None
       gone [] u i = refl
       gone (x ∷ l) zero i = none_some _ (sym i)
       gone (x ∷ l) (suc u) i = gone l u i
@@ -578,7 +587,7 @@ module _ (p : CastScript) (pok : IsTypedProgram p) (s : Settings) (rs : List Ty)
 
   abbrev Seat_near : Option Ty → State → ℕ → Micro → Type 0
   Seat_near a st n m = Nearer (seat_rank p k.words (length k.seats) m st)
-      (W.seat_steps p s k t (Some (record { asked = a; state = st; steps = n; micro = m })))
+      (TheTicks.seat_steps p s k t (Some (record { asked = a; state = st; steps = n; micro = m })))
       (tick_seat p s k t (Some (record { asked = a; state = st; steps = n; micro = m })))
 
   seat_near : (c : Configuration) → step_of p (stands s k) t ≡ Some c → (a : Option Ty) (st : State) (n : ℕ) (m : Micro)
@@ -606,7 +615,7 @@ module _ (p : CastScript) (pok : IsTypedProgram p) (s : Settings) (rs : List Ty)
   seat_near c e a state.Stopped n m at i l = none_some _ (sym (no_step a state.Stopped n m at refl) ∙ e)
 
   at_near : (c : Configuration) → step_of p (stands s k) t ≡ Some c → AllLively p small s k.seats → (o : Option Seat)
-      → slice_get k.seats t ≡ o → Nearer (rank_in p k o) (W.seat_steps p s k t o) (tick_seat p s k t o)
+      → slice_get k.seats t ≡ o → Nearer (rank_in p k o) (TheTicks.seat_steps p s k t o) (tick_seat p s k t o)
   at_near c e all None at = none_some _ (sym (no_seat at) ∙ e)
   at_near c e all (Some x) at = seat_near c e x.asked x.state x.steps x.micro at (ok.seats t x at) (all t x at)
 
@@ -736,14 +745,14 @@ module _ (p : CastScript) (pok : IsTypedProgram p) (s : Settings) (rs : List Ty)
     row_ok : ActOk p rs t cc.threads cc.heap (typ a) (item ∷ is) (act p cc item (record f { work = is }) below)
     row_ok = shown_row p pok s rs k ok t a f below n m at item is top
 
-    done_same : (u : ℕ) → finished cc.threads u ≡ W.result_at (k.words).results u
+    done_same : (u : ℕ) → finished cc.threads u ≡ TheWords.result_at (k.words).results u
     done_same u = fin_out p pok s rs k ok t u (record { asked = a; state = state.Running f below; steps = n; micro = m }) at refl
         ∙ sym ((ok.counts).results u)
 
     all_done : (us : List ℕ) → all_finished cc.threads us ≡ all_results (k.words).results us
     all_done [] = refl
     all_done (u ∷ us) = ap (λ o. is_some o && all_finished cc.threads us) (done_same u)
-        ∙ ap (λ b. is_some (W.result_at (k.words).results u) && b) (all_done us)
+        ∙ ap (λ b. is_some (TheWords.result_at (k.words).results u) && b) (all_done us)
 
     item_runs : (i : Work) → item ≡ i → is_runnable p (stands s k) t ≡ work_runs k.words f (i ∷ is)
     item_runs i e = go (is_wait (i ∷ is)) refl i e
@@ -767,10 +776,10 @@ module _ (p : CastScript) (pok : IsTypedProgram p) (s : Settings) (rs : List Ty)
 
         go : (b : Bool) → is_wait (i ∷ is) ≡ b → (j : Work) → item ≡ j → is_runnable p (stands s k) t ≡ work_runs k.words f (j ∷ is)
         go b w (work.Join u) z =
-            let e : act p cc item (record f { work = is }) below ≡ join_of (W.result_at (k.words).results u)
+            let e : act p cc item (record f { work = is }) below ≡ join_of (TheWords.result_at (k.words).results u)
             (record f { work = is }) below = ap (λ x. act p cc x (record f { work = is }) below) z
             ∙ ap (λ o. join_of o (record f { work = is }) below) (done_same u) in
-            runs_by _ e ∙ joins u (W.result_at (k.words).results u)
+            runs_by _ e ∙ joins u (TheWords.result_at (k.words).results u)
         go b w work.Leave z =
             left (all_results (k.words).results f.started) (ap (λ x. act p cc x (record f { work = is }) below) z
             ∙ ap (λ b'. if b' then leave_with f.values f.asked below else outcome.Waits) (all_done f.started))
@@ -786,7 +795,7 @@ module _ (p : CastScript) (pok : IsTypedProgram p) (s : Settings) (rs : List Ty)
       → f.work ≡ w → is_runnable p (stands s k) t ≡ work_runs k.words f w
   work_is a f below n m at [] e =
       let i = ok.states t (record { asked = a; state = state.Running f below; steps = n; micro = m }) at in
-      absurd ((subst (λ w. IsWellTypedTop p (around (i.0).scope f.asked rs t) (W.reveal (k.words).heap) [] w f.values (i.0).types) e
+      absurd ((subst (λ w. IsWellTypedTop p (around (i.0).scope f.asked rs t) (TheTicks.reveal (k.words).heap) [] w f.values (i.0).types) e
       (i.0).work).1)
   work_is a f below n m at (item ∷ is) e = item_runs a f below n m at item is e item refl
 
@@ -808,7 +817,7 @@ module _ (p : CastScript) (pok : IsTypedProgram p) (s : Settings) (rs : List Ty)
 -- the runnable threads are those that the words say
 runs_same : (p : CastScript) (c : Configuration) (w : Words) (qs : List Seat) (n : ℕ)
     → ((i : ℕ) (q : Seat) → slice_get qs i ≡ Some q → is_runnable p c (n + i) ≡ state_runs w q.state)
-    → runs_from w n qs ≡ runnable_from p c n (W.threads_of qs)
+    → runs_from w n qs ≡ runnable_from p c n (TheTicks.threads_of qs)
 runs_same p c w [] n same = refl
 runs_same p c w (q ∷ qs) n same =
     ap (λ b. if b then n ∷ runs_from w (n + 1) qs else runs_from w (n + 1) qs) (sym (same 0 q refl) ∙ ap (is_runnable p c) (plus n))

@@ -39,12 +39,15 @@ use Rattle.cast_machine.proofs.Grows.{HeapOk, has_grows, state_grows}
 use Rattle.cast_machine.proofs.Heap.{length-update, nat_eq-same, object-new, cell-split, shape-split, on_test}
 use Rattle.cast_machine.proofs.Obligations.{same_type-eq}
 use Rattle.cast_machine.proofs.ThreadLists.{length-slice_set}
-use Rattle.word_machine.specs.Tops.{Top, TLocal, TMiss, TCell, TBlind, TNew, TPrint, TLook, TLeave, TJoin, TBegin, top_of, own, lift}
-use Rattle.word_machine.specs.Tops.{FieldSays, TopSays}
-use Rattle.word_machine.specs.Words as W
-use Rattle.word_machine.specs.Words.{Words, fill, Answer, Micro, Quick, Seen, Count, Filling, Seeing, Seat, Next, Core, deep, after, moves}
-use Rattle.word_machine.specs.Words.{halts, turns, filling, unfilled, fresh_seat, put_begun, guess, same_val, same_cell, thread_of}
-use Rattle.word_machine.specs.Words.{threads_of, reveal, answered, acted, tick_seat, tick, next_top, resume_top}
+use Rattle.word_machine.specs.Seats.{Micro, Quick, Seen, Count, Filling, Seeing, Seat, Next, deep, after, moves, halts, turns, filling}
+use Rattle.word_machine.specs.Seats.{unfilled, fresh_seat, put_begun, guess, next_top, resume_top}
+use Rattle.word_machine.specs.Ticks.{Core, thread_of, threads_of, reveal, answered, acted, tick_seat, tick}
+use Rattle.word_machine.specs.TopRows.{lift, FieldSays, TopSays}
+use Rattle.word_machine.specs.Tops.{Top, TLocal, TMiss, TCell, TBlind, TNew, TPrint, TLook, TLeave, TJoin, TBegin, top_of, own}
+use Rattle.word_machine.specs.Words.{Words, fill, Answer, same_val, same_cell}
+use Rattle.word_machine.specs.Seats as TheSeats
+use Rattle.word_machine.specs.Ticks as TheTicks
+use Rattle.word_machine.specs.Words as TheWords
 use Rattle.word_machine.proofs.Saying.{says}
 use Rattle.word_machine.proofs.Reveal.{cell-reveal, cell-same, reveal-set, reveal-fill, reveal-size, reveal-more, object-set_cell}
 use Rattle.word_machine.proofs.CoreOk.{HasClass, fin, all_fin, Finishes, seen_grows, extends_trans, full, FillOk, SeatBy, CoreOk, CountsOk}
@@ -116,10 +119,10 @@ module _ (p : CastScript) (pok : IsTypedProgram p) (s : Settings) (rs : List Ty)
 
     -- behind an answer, and behind the next action
     abbrev Ans : Micro → Top → Words × Answer → Type 0
-    Ans m T r = Fine (W.top_steps p s item g0 below T r.1) (answered s k t (resume_top p s (q m) m item g0 below T) r)
+    Ans m T r = Fine (TheTicks.top_steps p s item g0 below T r.1) (answered s k t (resume_top p s (q m) m item g0 below T) r)
 
     abbrev Act : Micro → Top → Next → Type 0
-    Act m T r = Fine (W.next_steps p s k.words (length k.seats) (W.top_steps p s item g0 below T) r)
+    Act m T r = Fine (TheTicks.next_steps p s k.words (length k.seats) (TheTicks.top_steps p s item g0 below T) r)
         (acted s k t (resume_top p s (q m) m item g0 below T) r)
 
     owns : (m : Micro) → At m → Typed → (st : State) → value_of st ≡ None → act p c1 item g0 below ≡ outcome.Moves change.Same st
@@ -143,7 +146,7 @@ module _ (p : CastScript) (pok : IsTypedProgram p) (s : Settings) (rs : List Ty)
 
     looked_ok : (m : Micro) → At m → Typed → Plain m → (b : ℕ) (x : List ℕ) (v : Cell → Verdict) → Says c1 (TCell b x v)
         → Says c2 (TCell b x v) → (d : Cell) → cell_at h b x ≡ Some d → (y : Verdict) → v d ≡ y
-        → Fine (W.verdict_steps below y) (ins (W.looked p s (q m) below d y) k.words)
+        → Fine (TheTicks.verdict_steps below y) (ins (TheSeats.looked p s (q m) below d y) k.words)
     looked_ok m at i pl b x v s1 s2 d here y is' = go y e1 e2
       where
         e1 : act p c1 item g0 below ≡ settle b x y below
@@ -159,7 +162,7 @@ module _ (p : CastScript) (pok : IsTypedProgram p) (s : Settings) (rs : List Ty)
         sets new g e false dp = stills m (Seen d) at (λ e' y. i)
 
         go : (y : Verdict) → act p c1 item g0 below ≡ settle b x y below → act p c2 item g0 below ≡ settle b x y below
-            → Fine (W.verdict_steps below y) (ins (W.looked p s (q m) below d y) k.words)
+            → Fine (TheTicks.verdict_steps below y) (ins (TheSeats.looked p s (q m) below d y) k.words)
         go verdict.NoRow u w = stills m m at pl
         go (verdict.Goes g) u w = owns m at i (state.Running g below) refl u w
         go (verdict.Fails e) u w = owns m at i (state.Failing e) refl u w
@@ -167,7 +170,7 @@ module _ (p : CastScript) (pok : IsTypedProgram p) (s : Settings) (rs : List Ty)
 
     looked_at_ok : (m : Micro) → At m → Typed → Plain m → (b : ℕ) (x : List ℕ) (v : Cell → Verdict) → Says c1 (TCell b x v)
         → Says c2 (TCell b x v) → (o : Option Cell) → cell_at h b x ≡ o
-        → Fine (W.look_steps below v o) (ins (W.looked_at p s (q m) below v o) k.words)
+        → Fine (TheTicks.look_steps below v o) (ins (TheSeats.looked_at p s (q m) below v o) k.words)
     looked_at_ok m at i pl b x v s1 s2 None e = stills m m at pl
     looked_at_ok m at i pl b x v s1 s2 (Some d) e = looked_ok m at i pl b x v s1 s2 d e (v d) refl
 
@@ -191,18 +194,18 @@ module _ (p : CastScript) (pok : IsTypedProgram p) (s : Settings) (rs : List Ty)
     -- an exchange
     exchange_ok : (d : Cell) → At (Seen d) → Typed → (b : ℕ) (x : List ℕ) (v : Cell → Verdict) → Says c1 (TCell b x v)
         → Says c2 (TCell b x v) → (new : Cell) (g : Frame) → v d ≡ verdict.Sets new g → deep (state.Running g below) ≡ false
-        → (o : Option Cell) → cell_at h b x ≡ o → Ans (Seen d) (TCell b x v) (W.exchange s k.words b x d new o)
+        → (o : Option Cell) → cell_at h b x ≡ o → Ans (Seen d) (TCell b x v) (TheWords.exchange s k.words b x d new o)
     exchange_ok d at i b x v s1 s2 new g is' shallow None e = stills (Seen d) (Seen d) at (λ e' y. i)
     exchange_ok d at i b x v s1 s2 new g is' shallow (Some now) e =
         on_test (same_cell d now) _ _ (λ r. Ans (Seen d) (TCell b x v) r)
         (λ yes.
         let here : cell_at h b x ≡ Some d = e ∙ ap Some (sym (same_cell-eq d now yes)) in
-        subst (λ z. Fine true (ins (W.exchanged p s (q (Seen d)) below z) (record k.words { heap = set_cell h b x new }))) (sym is')
+        subst (λ z. Fine true (ins (TheSeats.exchanged p s (q (Seen d)) below z) (record k.words { heap = set_cell h b x new }))) (sym is')
         (set_ok (Seen d) at i b x v s1 s2 d here new g is' shallow))
         (λ differs. looked_ok (Seen d) at i (λ e' y. i) b x v s1 s2 now e (v now) refl)
 
     armed_ok : (d : Cell) → At (Seen d) → Typed → (b : ℕ) (x : List ℕ) (v : Cell → Verdict) → Says c1 (TCell b x v) → Says c2 (TCell b x v)
-        → (y : Verdict) → v d ≡ y → Act (Seen d) (TCell b x v) (W.armed p s t (q (Seen d)) below b x d y)
+        → (y : Verdict) → v d ≡ y → Act (Seen d) (TCell b x v) (TheSeats.armed p s t (q (Seen d)) below b x d y)
     armed_ok d at i b x v s1 s2 verdict.NoRow is' = rest_leaf p pok s rs k ok t
     armed_ok d at i b x v s1 s2 (verdict.Goes g) is' = rest_leaf p pok s rs k ok t
     armed_ok d at i b x v s1 s2 (verdict.Fails e) is' = rest_leaf p pok s rs k ok t
@@ -218,15 +221,15 @@ module _ (p : CastScript) (pok : IsTypedProgram p) (s : Settings) (rs : List Ty)
     -- a store without a look
     blind_ok : (m : Micro) → At m → Typed → (b : ℕ) (x : List ℕ) (new : Cell) (g : Frame) → Says c1 (TBlind b x new g)
         → Says c2 (TBlind b x new g) → (z : Bool) → deep (state.Running g below) ≡ z
-        → Act m (TBlind b x new g) (if z then W.NLocal (moves s (q m) Quick (state.Failing ends.DepthLimit))
-        else W.NWants (W.AStore b x new))
+        → Act m (TBlind b x new g) (if z then TheSeats.NLocal (moves s (q m) Quick (state.Failing ends.DepthLimit))
+        else TheSeats.NWants (TheWords.AStore b x new))
     blind_ok m at i b x new g s1 s2 z dp =
         let d = field_there p h ok.heap (s2.4).class b x (receiver i b x true s2.4) (s2.4).has in
         go d.0 d.1 z dp
       where
         go : (d : Cell) → cell_at h b x ≡ Some d → (z : Bool) → deep (state.Running g below) ≡ z
-            → Act m (TBlind b x new g) (if z then W.NLocal (moves s (q m) Quick (state.Failing ends.DepthLimit))
-            else W.NWants (W.AStore b x new))
+            → Act m (TBlind b x new g) (if z then TheSeats.NLocal (moves s (q m) Quick (state.Failing ends.DepthLimit))
+            else TheSeats.NWants (TheWords.AStore b x new))
         go d here true e =
             deep_leaf p pok s rs k ok t a f below n m at item is top (change.Sets b x new) (state.Running g below)
             (s1.2 ∙ ap (λ o. settle b x (on_cell s1.0 s1.1 o) below) (cell-reveal h b x d here) ∙ ap (λ y. settle b x y below) (s1.3 d)) e
@@ -238,7 +241,8 @@ module _ (p : CastScript) (pok : IsTypedProgram p) (s : Settings) (rs : List Ty)
             both (Some y) = ap (λ w. settle b x w below) (s1.3 y ∙ sym (s2.3 y))
 
     -- a field that the receiver's class hasn't
-    miss_ok : (m : Micro) → At m → Typed → (j : Option ℕ) → Says c1 (TMiss j) → Says c2 (TMiss j) → Act m (TMiss j) (W.misses p s t (q m) j)
+    miss_ok : (m : Micro) → At m → Typed → (j : Option ℕ) → Says c1 (TMiss j) → Says c2 (TMiss j)
+        → Act m (TMiss j) (TheSeats.misses p s t (q m) j)
     miss_ok m at i None s1 s2 = rest_leaf p pok s rs k ok t
     miss_ok m at i (Some j) s1 s2 =
         let v1 = receiver i s1.0 s1.1 false s1.3 in
@@ -253,7 +257,7 @@ module _ (p : CastScript) (pok : IsTypedProgram p) (s : Settings) (rs : List Ty)
 
     local_ok : (m : Micro) → At m → Typed → act p c1 item g0 below ≡ lift (own p s item g0 below)
         → act p c2 item g0 below ≡ lift (own p s item g0 below) → (o : Option State) → own p s item g0 below ≡ o
-        → Act m TLocal (W.goes_own p s t (q m) o)
+        → Act m TLocal (TheSeats.goes_own p s t (q m) o)
     local_ok m at i s1 s2 None e = absurd (rowless m at i (s2 ∙ ap lift e))
     local_ok m at i s1 s2 (Some (state.Running g b)) e = owns m at i (state.Running g b) refl (s1 ∙ ap lift e) (s2 ∙ ap lift e)
     local_ok m at i s1 s2 (Some (state.Failing x)) e = owns m at i (state.Failing x) refl (s1 ∙ ap lift e) (s2 ∙ ap lift e)
@@ -262,7 +266,7 @@ module _ (p : CastScript) (pok : IsTypedProgram p) (s : Settings) (rs : List Ty)
 
     went_ok : (m : Micro) → At m → Typed → Plain m → act p c1 item g0 below ≡ lift (own p s item g0 below)
         → act p c2 item g0 below ≡ lift (own p s item g0 below) → (o : Option State) → own p s item g0 below ≡ o
-        → Fine (is_some o) (ins (W.went_own p s (q m) o) k.words)
+        → Fine (is_some o) (ins (TheSeats.went_own p s (q m) o) k.words)
     went_ok m at i pl s1 s2 None e = absurd (rowless m at i (s2 ∙ ap lift e))
     went_ok m at i pl s1 s2 (Some (state.Running g b)) e = owns m at i (state.Running g b) refl (s1 ∙ ap lift e) (s2 ∙ ap lift e)
     went_ok m at i pl s1 s2 (Some (state.Failing x)) e = owns m at i (state.Failing x) refl (s1 ∙ ap lift e) (s2 ∙ ap lift e)
@@ -271,7 +275,7 @@ module _ (p : CastScript) (pok : IsTypedProgram p) (s : Settings) (rs : List Ty)
 
     -- a look at the end, and then the step
     look_ok : (m : Micro) → At m → Typed → Plain m → Says c1 TLook → Says c2 TLook → (o : Option End) → (k.words).end ≡ o
-        → Ans m TLook (k.words, W.Ends o (words_of (k.words).lines))
+        → Ans m TLook (k.words, TheWords.Ends o (words_of (k.words).lines))
     look_ok m at i pl s1 s2 None e = went_ok m at i pl s1 s2 (own p s item g0 below) refl
     look_ok m at i pl s1 s2 (Some x) e = ended m at x e
 
@@ -281,12 +285,12 @@ module _ (p : CastScript) (pok : IsTypedProgram p) (s : Settings) (rs : List Ty)
     fin_same m at u = fin_out p pok s rs k ok t u (q m) at refl
 
     join_look : (m : Micro) → At m → Typed → (u : ℕ) → (e : Option End) → (k.words).end ≡ e
-        → Ans m (TJoin u) (k.words, W.Ends e (words_of (k.words).lines))
+        → Ans m (TJoin u) (k.words, TheWords.Ends e (words_of (k.words).lines))
     join_look m at i u None e = stills m (Count (words_of (k.words).lines)) at (λ d y. i)
     join_look m at i u (Some x) e = ended m at x e
 
     join_ok : (m : Micro) → At m → Typed → (u : ℕ) → Says c1 (TJoin u) → Says c2 (TJoin u) → (o : Option Val) → fin k.seats u ≡ o
-        → Ans m (TJoin u) (k.words, W.Result o)
+        → Ans m (TJoin u) (k.words, TheWords.Result o)
     join_ok m at i u s1 s2 None e = stills m Quick at (λ d y. i)
     join_ok m at i u s1 s2 (Some v) e =
         owns m at i (state.Running (has (v ∷ f.values) g0) below) refl
@@ -294,25 +298,25 @@ module _ (p : CastScript) (pok : IsTypedProgram p) (s : Settings) (rs : List Ty)
 
     -- ---- leaving a frame, or main's end
 
-    sees_ok : (m : Micro) → At m → Typed → Plain m → Fine false (ins (W.sees p s (q m) m g0 (words_of (k.words).lines)) k.words)
+    sees_ok : (m : Micro) → At m → Typed → Plain m → Fine false (ins (TheSeats.sees p s (q m) m g0 (words_of (k.words).lines)) k.words)
     sees_ok (Seeing [] j) at i pl = stills (Seeing [] j) (Seeing [] (words_of (k.words).lines)) at pl
     sees_ok (Seeing (u ∷ left) j) at i pl = stills (Seeing (u ∷ left) j) (Seeing f.started (words_of (k.words).lines)) at
         (λ d y. (i, ([], refl, refl)))
     sees_ok m at i pl = stills m (Seeing f.started (words_of (k.words).lines)) at (λ d y. (i, ([], refl, refl)))
 
     leave_look : (m : Micro) → At m → Typed → Plain m → (o : Option End) → (k.words).end ≡ o
-        → Ans m TLeave (k.words, W.Ends o (words_of (k.words).lines))
+        → Ans m TLeave (k.words, TheWords.Ends o (words_of (k.words).lines))
     leave_look m at i pl None e = sees_ok m at i pl
     leave_look m at i pl (Some x) e = ended m at x e
 
     done_ok : (c : ℕ) (m : Micro) → At m → Typed → Plain m → f.asked ≡ None
         → act p c1 item g0 below ≡ outcome.Moves (change.Ends ends.Done) state.Stopped → (o : Option End) → (k.words).end ≡ o
-        → Ans m TLeave (W.record_end s k.words c ends.Done o)
+        → Ans m TLeave (TheWords.record_end s k.words c ends.Done o)
     done_ok c m at i pl ea s1 (Some x) e = ended m at x e
     done_ok c m at i pl ea s1 None e =
         on_test (nat_eq c (words_of (k.words).lines)) _ _ (λ r. Ans m TLeave r)
         (λ yes.
-        subst (λ o. Fine true (ins (W.left_as p s (q m) o f.values) (record k.words { end = Some ends.Done }))) (sym ea)
+        subst (λ o. Fine true (ins (TheSeats.left_as p s (q m) o f.values) (record k.words { end = Some ends.Done }))) (sym ea)
         (done_leaf p pok s rs k ok t a f below n m at item is top e s1))
         (λ differs. sees_ok m at i pl)
 
@@ -330,7 +334,7 @@ module _ (p : CastScript) (pok : IsTypedProgram p) (s : Settings) (rs : List Ty)
         (all_fin d (xs ++ u ∷ [])) y.0 (all_one d xs u v y.1 i)
 
     saw_ok : (u : ℕ) (left : List ℕ) (c : ℕ) → At (Seeing (u ∷ left) c) → Typed → Plain (Seeing (u ∷ left) c) → (o : Option Val)
-        → fin k.seats u ≡ o → Ans (Seeing (u ∷ left) c) TLeave (k.words, W.Result o)
+        → fin k.seats u ≡ o → Ans (Seeing (u ∷ left) c) TLeave (k.words, TheWords.Result o)
     saw_ok u left c at i pl None e = stills (Seeing (u ∷ left) c) Quick at (λ d y. i)
     saw_ok u left c at i pl (Some v) e =
         stills (Seeing (u ∷ left) c) (Seeing left c) at
@@ -346,7 +350,7 @@ module _ (p : CastScript) (pok : IsTypedProgram p) (s : Settings) (rs : List Ty)
         ∙ ap (all_fin (fin k.seats)) (z.1 ∙ append_none z.0) ∙ z.2
 
     leaves_ok : (c : ℕ) → At (Seeing [] c) → Typed → Plain (Seeing [] c) → Says c1 TLeave → Says c2 TLeave → (o : Option Ty) → f.asked ≡ o
-        → Act (Seeing [] c) TLeave (W.leaves p s t (q (Seeing [] c)) g0 below c o)
+        → Act (Seeing [] c) TLeave (TheSeats.leaves p s t (q (Seeing [] c)) g0 below c o)
     leaves_ok c at i pl s1 s2 None e = done_ok c (Seeing [] c) at i pl e
         (s1 ∙ ap (λ b. if b then leave_with f.values f.asked below else outcome.Waits) (left_all c at pl)
         ∙ ap (λ o. leave_with f.values o below) e) (k.words).end refl
@@ -365,16 +369,17 @@ module _ (p : CastScript) (pok : IsTypedProgram p) (s : Settings) (rs : List Ty)
         with_these vs ev bl eb = ap (λ x. leave_with x (Some T) below) ev ∙ ap (λ x. leave_with vs (Some T) x) eb
 
         go : (vs : List Val) → f.values ≡ vs → (bl : List Frame) → below ≡ bl
-            → Act (Seeing [] c) TLeave (W.leaves_to p s t (q (Seeing [] c)) vs bl)
+            → Act (Seeing [] c) TLeave (TheSeats.leaves_to p s t (q (Seeing [] c)) vs bl)
         go [] ev bl eb = absurd (rowless (Seeing [] c) at i (e2 ∙ with_these [] ev bl eb))
         go (v ∷ vs) ev [] eb =
             let st : State = state.Finished v in
             let kp = kept p pok s rs k ok t a f below n (Seeing [] c) at item is top i change.Same st (e2 ∙ with_these (v ∷ vs) ev [] eb) in
             subst (λ o. Fine true
-            (ins (W.left_as p s (q (Seeing [] c)) o f.values) (record k.words { results = slice_set (k.words).results t (Some v) })))
+            (ins (TheSeats.left_as p s (q (Seeing [] c)) o f.values) (record k.words { results = slice_set (k.words).results t (Some v) })))
             (sym e)
             (subst (λ us. Fine true
-            (ins (W.left_as p s (q (Seeing [] c)) (Some T) us) (record k.words { results = slice_set (k.words).results t (Some v) })))
+            (ins (TheSeats.left_as p s (q (Seeing [] c)) (Some T) us)
+            (record k.words { results = slice_set (k.words).results t (Some v) })))
             (sym ev)
             (change_leaf p pok s rs k ok t a f below n (Seeing [] c) at item is top Quick
             (record k.words { results = slice_set (k.words).results t (Some v) }) change.Same st
@@ -389,8 +394,9 @@ module _ (p : CastScript) (pok : IsTypedProgram p) (s : Settings) (rs : List Ty)
     print_room : (m : Micro) → At m → Typed → (args : List Val) (g : Frame) → Says c1 (TPrint args g) → Says c2 (TPrint args g)
         → deep (state.Running g below) ≡ false → (k.words).end ≡ None → (b : Bool)
         → nat_le (words_of (k.words).lines + (length args + 1)) s.print ≡ b
-        → Ans m (TPrint args g) (if b then (record k.words { lines = (k.words).lines ++ args ∷ [] }, W.Drawn (words_of (k.words).lines))
-        else (k.words, W.Full))
+        → Ans m (TPrint args g)
+        (if b then (record k.words { lines = (k.words).lines ++ args ∷ [] }, TheWords.Drawn (words_of (k.words).lines))
+        else (k.words, TheWords.Full))
     print_room m at i args g s1 s2 shallow none true room =
         let st : State = state.Running g below in
         let e1 : act p c1 item g0 below ≡ outcome.Moves (change.Says args) st = s1.0
@@ -409,7 +415,7 @@ module _ (p : CastScript) (pok : IsTypedProgram p) (s : Settings) (rs : List Ty)
 
     print_ok : (c : ℕ) (m : Micro) → At m → Typed → (args : List Val) (g : Frame) → Says c1 (TPrint args g) → Says c2 (TPrint args g)
         → deep (state.Running g below) ≡ false → (o : Option End) → (k.words).end ≡ o
-        → Ans m (TPrint args g) (W.draw_print s k.words c args o)
+        → Ans m (TPrint args g) (TheWords.draw_print s k.words c args o)
     print_ok c m at i args g s1 s2 shallow (Some x) e = ended m at x e
     print_ok c m at i args g s1 s2 shallow None e =
         on_test (nat_eq c (words_of (k.words).lines)) _ _ (λ r. Ans m (TPrint args g) r)
@@ -419,7 +425,7 @@ module _ (p : CastScript) (pok : IsTypedProgram p) (s : Settings) (rs : List Ty)
     -- ---- a new thread
 
     begin_look : (m : Micro) → At m → Typed → (x : List ℕ) (j : ℕ) (d : CastFunction) (M : Ty) (args : List Val) (g : Frame)
-        → (e : Option End) → (k.words).end ≡ e → Ans m (TBegin x j d M args g) (k.words, W.Ends e (words_of (k.words).lines))
+        → (e : Option End) → (k.words).end ≡ e → Ans m (TBegin x j d M args g) (k.words, TheWords.Ends e (words_of (k.words).lines))
     begin_look m at i x j d M args g None e = stills m (Count 1) at (λ d' y. i)
     begin_look m at i x j d M args g (Some z) e = ended m at z e
 
@@ -448,9 +454,14 @@ module _ (p : CastScript) (pok : IsTypedProgram p) (s : Settings) (rs : List Ty)
       taken z = resume_top p s (q m) m item g0 below (TBegin y j d M args g) z
 
       begin_room : deep (begun_state 0) ≡ false → (b : Bool) → nat_le 256 (length k.seats) ≡ b
-          → Fine (W.top_steps p s item g0 below (TBegin y j d M args g) (if b then W.Full else W.Drawn (length k.seats)))
-          (if b then answered s k t taken (k.words, W.Full)
-          else record { words = k.words; seats = slice_set k.seats t (taken (W.Drawn (length k.seats))) ++ fresh_seat d M args ∷ [] })
+          → Fine (TheTicks.top_steps p s item g0 below (TBegin y j d M args g) (if b then TheWords.Full
+          else TheWords.Drawn (length k.seats)))
+          (if b then answered s k t taken (k.words, TheWords.Full)
+          else record {
+            words = k.words;
+            seats = slice_set k.seats t (taken (TheWords.Drawn (length k.seats))) ++ fresh_seat d M args ∷
+                [];
+          })
       begin_room shallow true b =
           owns m at i (state.Failing ends.ThreadLimit) refl
           (e1 ∙ ap (λ z. if z then fails ends.ThreadLimit else makes (length k.seats)) b)
@@ -462,22 +473,27 @@ module _ (p : CastScript) (pok : IsTypedProgram p) (s : Settings) (rs : List Ty)
           (e2 ∙ ap (λ z. if z then fails ends.ThreadLimit else makes (length k.seats)) b)
           (same_deep (length k.seats) 0 ∙ shallow)
 
-      begin_ok : (c : ℕ) → deep (begun_state 0) ≡ false → Act m (TBegin y j d M args g) (W.NBegins c j M args (fresh_seat d M args))
+      begin_ok : (c : ℕ) → deep (begun_state 0) ≡ false → Act m (TBegin y j d M args g) (TheSeats.NBegins c j M args (fresh_seat d M args))
       begin_ok c shallow = go (nat_eq c (length k.seats)) refl
         where
           go : (z : Bool) → nat_eq c (length k.seats) ≡ z
-              → Fine (W.top_steps p s item g0 below (TBegin y j d M args g)
-              (if z then (if nat_le 256 (length k.seats) then W.Full else W.Drawn (length k.seats)) else W.Counts (length k.seats)))
-              (if z then (if nat_le 256 (length k.seats) then answered s k t taken (k.words, W.Full)
-              else record { words = k.words; seats = slice_set k.seats t (taken (W.Drawn (length k.seats))) ++ fresh_seat d M args ∷ [] })
-              else answered s k t taken (k.words, W.Counts (length k.seats)))
+              → Fine (TheTicks.top_steps p s item g0 below (TBegin y j d M args g)
+              (if z then (if nat_le 256 (length k.seats) then TheWords.Full else TheWords.Drawn (length k.seats))
+              else TheWords.Counts (length k.seats)))
+              (if z then (if nat_le 256 (length k.seats) then answered s k t taken (k.words, TheWords.Full)
+              else record {
+                words = k.words;
+                seats = slice_set k.seats t (taken (TheWords.Drawn (length k.seats))) ++ fresh_seat d M args ∷
+                    [];
+              })
+              else answered s k t taken (k.words, TheWords.Counts (length k.seats)))
           go true e = begin_room shallow (nat_le 256 (length k.seats)) refl
           go false e = stills m (Count (length k.seats)) at (λ d' z. i)
 
     -- ---- a new object
 
     new_look : (m : Micro) → At m → Typed → (o : Object) (g : Frame) → (e : Option End) → (k.words).end ≡ e
-        → Ans m (TNew o g) (k.words, W.Ends e (words_of (k.words).lines))
+        → Ans m (TNew o g) (k.words, TheWords.Ends e (words_of (k.words).lines))
     new_look m at i o g None e = stills m (Count 0) at (λ e' y. i)
     new_look m at i o g (Some x) e = ended m at x e
 
@@ -616,11 +632,11 @@ module _ (p : CastScript) (pok : IsTypedProgram p) (s : Settings) (rs : List Ty)
             shown_h = ap (λ r. reveal h ++ r ∷ []) s2.1 ∙ sym (reveal-more h new)
 
       new_room : deep st ≡ false → (b : Bool) → nat_le (heap_size h + size o) s.heap ≡ b
-          → Ans m (TNew o g) (if b then (record k.words { heap = h' }, W.Drawn (heap_size h)) else (k.words, W.Full))
+          → Ans m (TNew o g) (if b then (record k.words { heap = h' }, TheWords.Drawn (heap_size h)) else (k.words, TheWords.Full))
       new_room shallow true room = drawn_ok shallow room
       new_room shallow false room = owns m at i (state.Failing ends.HeapFull) refl (n1 false room) (n2 false room)
 
-      draw_ok : (c : ℕ) → deep st ≡ false → Ans m (TNew o g) (W.apply s k.words (W.ADraw c (unfilled t o)))
+      draw_ok : (c : ℕ) → deep st ≡ false → Ans m (TNew o g) (TheWords.apply s k.words (TheWords.ADraw c (unfilled t o)))
       draw_ok c shallow =
           on_test (nat_eq c (heap_size h)) _ _ (λ r. Ans m (TNew o g) r)
           (λ yes. new_room shallow (nat_le (heap_size h + size o) s.heap) refl)
@@ -633,7 +649,7 @@ module _ (p : CastScript) (pok : IsTypedProgram p) (s : Settings) (rs : List Ty)
         → ((d : ℕ → Option Val) → Finishes (fin k.seats) d → SeatBy p rs d t (k.words).heap (typ a) (state.Running f below) m) → (T : Top)
         → TopSays p (there p pok s rs k ok t) item (record f { work = is }) below T
         → TopSays p (typed p pok s rs k ok t) item (record f { work = is }) below T
-        → Good p s rs k t (W.next_steps p s k.words (length k.seats) (W.top_steps p s item (record f { work = is }) below T)
+        → Good p s rs k t (TheTicks.next_steps p s k.words (length k.seats) (TheTicks.top_steps p s item (record f { work = is }) below T)
         (next_top p s t (seat a (state.Running f below) n m) m item (record f { work = is }) below T))
         (acted s k t (resume_top p s (seat a (state.Running f below) n m) m item (record f { work = is }) below T)
         (next_top p s t (seat a (state.Running f below) n m) m item (record f { work = is }) below T))
@@ -653,10 +669,10 @@ module _ (p : CastScript) (pok : IsTypedProgram p) (s : Settings) (rs : List Ty)
         (λ shallow. print_ok (guess m) m at i args g s1 s2 shallow (k.words).end refl)
     top_ok m at i pl TLook s1 s2 = look_ok m at i pl s1 s2 (k.words).end refl
     top_ok (Seeing [] c) at i pl TLeave s1 s2 = leaves_ok c at i pl s1 s2 f.asked refl
-    top_ok (Seeing (u ∷ left) c) at i pl TLeave s1 s2 = saw_ok u left c at i pl (W.result_at (k.words).results u)
+    top_ok (Seeing (u ∷ left) c) at i pl TLeave s1 s2 = saw_ok u left c at i pl (TheWords.result_at (k.words).results u)
         (sym ((ok.counts).results u))
     top_ok m at i pl TLeave s1 s2 = leave_look m at i pl (k.words).end refl
-    top_ok (Count c) at i pl (TJoin u) s1 s2 = join_ok (Count c) at i u s1 s2 (W.result_at (k.words).results u)
+    top_ok (Count c) at i pl (TJoin u) s1 s2 = join_ok (Count c) at i u s1 s2 (TheWords.result_at (k.words).results u)
         (sym ((ok.counts).results u))
     top_ok m at i pl (TJoin u) s1 s2 = join_look m at i u (k.words).end refl
     top_ok (Count c) at i pl (TBegin y j d M args g) s1 s2 =
@@ -668,12 +684,12 @@ module _ (p : CastScript) (pok : IsTypedProgram p) (s : Settings) (rs : List Ty)
   -- a failing thread
   fail_ok : (a : Option Ty) (e : End) (n c : ℕ) (m : Micro) → slice_get k.seats t ≡ Some (seat a (state.Failing e) n m)
       → IsWellTypedState p rs t h (typ a) (state.Failing e) → (o : Option End) → (k.words).end ≡ o
-      → Fine (W.end_steps p s (W.record_end s k.words c e o).1)
-      (answered s k t (W.resume_end p s (seat a (state.Failing e) n m)) (W.record_end s k.words c e o))
+      → Fine (TheTicks.end_steps p s (TheWords.record_end s k.words c e o).1)
+      (answered s k t (TheSeats.resume_end p s (seat a (state.Failing e) n m)) (TheWords.record_end s k.words c e o))
   fail_ok a e n c m at i (Some x) d = halt_leaf p pok s rs k ok t a (state.Failing e) n m at refl x d
   fail_ok a e n c m at i None d =
       on_test (nat_eq c (words_of (k.words).lines)) _ _
-      (λ r. Fine (W.end_steps p s r.1) (answered s k t (W.resume_end p s (seat a (state.Failing e) n m)) r))
+      (λ r. Fine (TheTicks.end_steps p s r.1) (answered s k t (TheSeats.resume_end p s (seat a (state.Failing e) n m)) r))
       (λ yes. end_leaf p pok s rs k ok t a e n m at d)
       (λ differs. still_leaf p pok s rs k ok t a (state.Failing e) n m (Count (words_of (k.words).lines)) at (λ e' y. i))
 
@@ -731,10 +747,10 @@ module _ (p : CastScript) (pok : IsTypedProgram p) (s : Settings) (rs : List Ty)
       → slice_get k.seats t ≡ Some (seat a (state.Running f below) n m) → IsWellTypedState p rs t h (typ a) (state.Running f below)
       → ((d : ℕ → Option Val) → Finishes (fin k.seats) d → SeatBy p rs d t h (typ a) (state.Running f below) m) → (w : List Work)
       → f.work ≡ w →
-      Fine (W.next_steps p s k.words (length k.seats) (W.work_steps p s f below w)
-      (W.next_work p s t (seat a (state.Running f below) n m) m f below w))
-      (acted s k t (W.resume_work p s (seat a (state.Running f below) n m) m f below w)
-      (W.next_work p s t (seat a (state.Running f below) n m) m f below w))
+      Fine (TheTicks.next_steps p s k.words (length k.seats) (TheTicks.work_steps p s f below w)
+      (TheSeats.next_work p s t (seat a (state.Running f below) n m) m f below w))
+      (acted s k t (TheSeats.resume_work p s (seat a (state.Running f below) n m) m f below w)
+      (TheSeats.next_work p s t (seat a (state.Running f below) n m) m f below w))
   running a f below n m at i pl [] e = rest_leaf p pok s rs k ok t
   running a f below n m at i pl (item ∷ is) e =
       top_ok a f below n item is e m at i pl (top_of p item (record f { work = is }))
@@ -743,7 +759,7 @@ module _ (p : CastScript) (pok : IsTypedProgram p) (s : Settings) (rs : List Ty)
 
   seat_ok : (a : Option Ty) (st : State) (n : ℕ) (m : Micro) → slice_get k.seats t ≡ Some (seat a st n m)
       → SeatBy p rs (fin k.seats) t h (typ a) st m
-      → Fine (W.seat_steps p s k t (Some (seat a st n m))) (tick_seat p s k t (Some (seat a st n m)))
+      → Fine (TheTicks.seat_steps p s k t (Some (seat a st n m))) (tick_seat p s k t (Some (seat a st n m)))
   seat_ok a st n (Filling b left) at i = fill_ok a st n b left at i
   seat_ok a (state.Running f below) n Quick at i = running a f below n Quick at i (λ d x. i) f.work refl
   seat_ok a (state.Running f below) n (Seen c) at i = running a f below n (Seen c) at i (λ d x. i) f.work refl
@@ -763,9 +779,9 @@ module _ (p : CastScript) (pok : IsTypedProgram p) (s : Settings) (rs : List Ty)
   seat_ok a state.Stopped n (Count c) at i = rest_leaf p pok s rs k ok t
   seat_ok a state.Stopped n (Seeing left c) at i = rest_leaf p pok s rs k ok t
 
-  at_seat : (o : Option Seat) → slice_get k.seats t ≡ o → Fine (W.seat_steps p s k t o) (tick_seat p s k t o)
+  at_seat : (o : Option Seat) → slice_get k.seats t ≡ o → Fine (TheTicks.seat_steps p s k t o) (tick_seat p s k t o)
   at_seat None e = rest_leaf p pok s rs k ok t
   at_seat (Some x) e = seat_ok x.asked x.state x.steps x.micro e (ok.seats t x e)
 
-  pub tick_ok : Good p s rs k t (W.tick_steps p s k t) (tick p s k t)
+  pub tick_ok : Good p s rs k t (TheTicks.tick_steps p s k t) (tick p s k t)
   tick_ok = at_seat (slice_get k.seats t) refl

@@ -1,24 +1,25 @@
 -- Every list of events of the word machine follows the calculus.
 use Rattle.std.specs.Prelude.{◌≡◌, ℕ, zero, suc, Bool, true, false, List, [], ◌∷◌, ◌++◌, Option, Some, None, is_some, if◌then◌else◌}
 use Rattle.std.specs.Prelude.{slice_get}
+use Rattle.mono_syntax.specs.Ty.{Ty}
 use Rattle.mono_syntax.specs.declared.cast.CastScript.{CastScript}
 use Rattle.mono_tree.specs.TypedPrograms.{IsTypedProgram}
+use Rattle.cast_machine.specs.Calls.{finished}
+use Rattle.cast_machine.specs.Heap.{cell_at}
+use Rattle.cast_machine.specs.HeapTyping.{HasType, Extends, IsWellTypedHeap, IsHeapOf}
+use Rattle.cast_machine.specs.Step.{run_of, step_of}
+use Rattle.cast_machine.specs.Typing.{IsWellTypedState, result_type, results_of}
 use Rattle.cast_machine.specs.declared.data.Cell.{Cell}
 use Rattle.cast_machine.specs.declared.data.Frame.{Frame}
 use Rattle.cast_machine.specs.declared.data.Ready.{Ready}
 use Rattle.cast_machine.specs.declared.data.Settings.{Settings}
 use Rattle.cast_machine.specs.declared.data.Thread.{Thread}
-use Rattle.cast_machine.specs.declared.data.State.TheVariants as state
 use Rattle.cast_machine.specs.declared.data.Work.{Work}
+use Rattle.word_machine.specs.Seats.{Micro, Filling, Seat, Next, NLocal, next_action}
+use Rattle.word_machine.specs.Ticks.{Core, tick, tick_steps, stands, core_start}
+use Rattle.word_machine.specs.Words.{result_at}
+use Rattle.cast_machine.specs.declared.data.State.TheVariants as state
 use Rattle.cast_machine.specs.declared.data.Work.TheVariants as work
-use Rattle.mono_syntax.specs.Ty.{Ty}
-use Rattle.mono_syntax.specs.declared.value.Val.{Val}
-use Rattle.cast_machine.specs.Heap.{cell_at}
-use Rattle.cast_machine.specs.HeapTyping.{HasType, Extends, IsWellTypedHeap, IsHeapOf}
-use Rattle.cast_machine.specs.Typing.{IsWellTypedState, result_type, results_of}
-use Rattle.cast_machine.specs.Calls.{finished}
-use Rattle.cast_machine.specs.Step.{main_frame, run_of, step_of}
-use Rattle.word_machine.specs.Words.{Micro, Quick, Filling, Seat, Next, NLocal, next_action, Core, tick, tick_steps, result_at, stands}
 
 abbrev pub is_local : Next → Bool
 is_local (NLocal q) = true
@@ -89,16 +90,9 @@ Trace p s n (t ∷ ts) k picks =
     × OnlyOf t (event_picks p s n k t)
     × Trace p s n ts (event p s n k t) (picks ++ event_picks p s n k t)
 
--- no word is drawn, and the main thread begins
-abbrev pub empty_results : ℕ → List (Option Val)
-empty_results zero = []
-empty_results (suc n) = None ∷ empty_results n
-
-abbrev pub core_start : CastScript → Core
-core_start p = record {
-  words = record { heap = []; lines = []; results = empty_results 256; end = None };
-  seats = record { asked = None; state = state.Running (main_frame p) []; steps = 0; micro = Quick } ∷ [];
-}
+abbrev pub picks_of : CastScript → Settings → Core → List ℕ → List ℕ
+picks_of p s k [] = []
+picks_of p s k (t ∷ ts) = tick_picks p s k t ++ picks_of p s (tick p s k t) ts
 
 abbrev pub WordsFollow : Type 0
 WordsFollow = (p : CastScript) → IsTypedProgram p → (s : Settings) (n : ℕ) (events : List ℕ) → Trace p s n events (core_start p) []

@@ -1,22 +1,20 @@
--- The word machine with its hosts: 256 seats that are begun, claim a thread, load its arguments and run it, and the words by
--- which a thread is started.
-use Rattle.std.specs.Prelude.{◌≡◌, ℕ, ◌+◌, ◌<◌, Bool, true, false, ◌&&◌, List, [], ◌∷◌, ◌++◌, length, Option, Some, None, nat_eq, nat_le}
-use Rattle.std.specs.Prelude.{nat_lt, if◌then◌else◌, slice_get}
+-- The word machine with its hosts: 256 seats that are begun, claim a thread, load its arguments and run it, and the words
+-- by which a thread is started.
+use Rattle.std.specs.Prelude.{ℕ, ◌+◌, Bool, true, false, ◌&&◌, List, [], ◌∷◌, ◌++◌, length, Option, Some, None, nat_eq, nat_le, nat_lt}
+use Rattle.std.specs.Prelude.{if◌then◌else◌, slice_get}
 use Rattle.mono_syntax.specs.Ty.{Ty}
-use Rattle.mono_syntax.specs.declared.value.Val.{Val}
-use Rattle.mono_syntax.specs.declared.cast.CastScript.{CastScript}
 use Rattle.mono_syntax.specs.declared.cast.CastFunction.{CastFunction}
+use Rattle.mono_syntax.specs.declared.cast.CastScript.{CastScript}
+use Rattle.mono_syntax.specs.declared.value.Val.{Val}
 use Rattle.mono_tree.specs.CastScripts.{params_of}
-use Rattle.mono_tree.specs.TypedPrograms.{IsTypedProgram}
-use Rattle.cast_machine.specs.declared.data.Settings.{Settings}
-use Rattle.cast_machine.specs.declared.data.State.TheVariants as state
 use Rattle.cast_machine.specs.Calls.{count_of}
 use Rattle.cast_machine.specs.Cells.{same_type}
-use Rattle.cast_machine.specs.HeapTyping.{IsAsPrecise, IsFunctionOf, Extends}
 use Rattle.cast_machine.specs.Step.{main_frame}
-use Rattle.word_machine.specs.Words.{Words, Answer, Full, Counts, Drawn, Quick, Seat, Next, NLocal, NRest, NWants, NBegins, apply}
-use Rattle.word_machine.specs.Words.{next_action, resume, fresh_seat, Core, tick}
-use Rattle.word_machine.specs.Follows.{Follows, OnlyOf, tick_picks, empty_results, core_start}
+use Rattle.cast_machine.specs.declared.data.Settings.{Settings}
+use Rattle.word_machine.specs.Seats.{Quick, Seat, Next, NLocal, NRest, NWants, NBegins, next_action, resume, fresh_seat}
+use Rattle.word_machine.specs.Ticks.{empty_results}
+use Rattle.word_machine.specs.Words.{Words, Answer, Full, Counts, Drawn, apply}
+use Rattle.cast_machine.specs.declared.data.State.TheVariants as state
 
 -- ---- the words
 
@@ -160,14 +158,6 @@ abbrev pub ticks_of : CastScript → Settings → Hosts → List Event → List 
 ticks_of p s k [] = []
 ticks_of p s k (e ∷ es) = event_ticks k e ++ ticks_of p s (happens p s k e) es
 
-abbrev pub after_ticks : CastScript → Settings → Core → List ℕ → Core
-after_ticks p s k [] = k
-after_ticks p s k (t ∷ ts) = after_ticks p s (tick p s k t) ts
-
-abbrev pub picks_of : CastScript → Settings → Core → List ℕ → List ℕ
-picks_of p s k [] = []
-picks_of p s k (t ∷ ts) = tick_picks p s k t ++ picks_of p s (tick p s k t) ts
-
 -- every seat is idle, and every word is 0 but the count of threads, which is 1
 abbrev pub hosts_start : Hosts
 hosts_start = record {
@@ -176,91 +166,3 @@ hosts_start = record {
   made = 1;
   hosts = λ h. Idle;
 }
-
--- ---- where a thread is known from
-
--- a function of the script at a merged type of its arity, called with these arguments
-pub record Begun (p : CastScript) (g : ℕ) (m : Ty) (args : List Val) (q : Seat) : Type 0 where
-  pub function : CastFunction
-  pub at : slice_get p.functions g ≡ Some function
-  pub low : IsAsPrecise m function.ty
-  pub many : length args ≡ arity m
-  pub is : q ≡ fresh_seat function m args
-
-pub data Known : Type 0 where
-  ByStarter : (host : ℕ) → Known
-  ByWords : Known
-  ByClaimer : (host : ℕ) → Known
-
--- main's header is 0 until it is claimed; another thread's is its function's word
-abbrev pub IsReady : CastScript → ℕ → Seat → List Val → Header → Type 0
-IsReady p u q args HEmpty = (u ≡ 0) × (q ≡ main_seat p)
-IsReady p u q args (HFunc g m) = (0 < u) × Begun p g m args q
-IsReady p u q args HClaimed = ⊥
-
--- the arguments that are stored, and those that the starter has still to store
-abbrev pub IsStarted : CastScript → ℕ → Seat → List Val → Host → Type 0
-IsStarted p u q args (Starts t r v g m left) = (v ≡ u) × Begun p g m (args ++ left) q
-IsStarted p u q args x = ⊥
-
--- the claiming seat's state, with the argument words that it has still to load
-abbrev pub IsClaimed : CastScript → ℕ → Seat → List Val → Host → Type 0
-IsClaimed p u q args (Loads t g m loaded) = (t ≡ u) × Begun p g m args q × ((rest : List Val) × (args ≡ loaded ++ rest))
-    × (length loaded < arity m)
-IsClaimed p u q args (Runs t r) = (t ≡ u) × (r ≡ q)
-IsClaimed p u q args (Starts t r v g m left) = (t ≡ u) × (r ≡ q)
-IsClaimed p u q args x = ⊥
-
-abbrev pub IsKnown : CastScript → Hosts → ℕ → Seat → Known → Type 0
-IsKnown p k u q (ByStarter h) = (0 < u) × ((k.slots u).header ≡ HEmpty) × IsStarted p u q (k.slots u).args (k.hosts h)
-IsKnown p k u q ByWords = IsReady p u q (k.slots u).args (k.slots u).header
-IsKnown p k u q (ByClaimer h) = ((k.slots u).header ≡ HClaimed) × IsClaimed p u q (k.slots u).args (k.hosts h)
-
--- what a host knows is known from it alone
-abbrev pub Knows : (ℕ → Known) → ℕ → ℕ → Host → Type 0
-Knows known n h Idle = Unit {0}
-Knows known n h (Claims t HEmpty) = t ≡ 0
-Knows known n h (Claims t w) = Unit {0}
-Knows known n h (Loads t g m loaded) = (known t ≡ ByClaimer h) × (t < n)
-Knows known n h (Runs t q) = (known t ≡ ByClaimer h) × (t < n)
-Knows known n h (Starts t q u g m left) = (known t ≡ ByClaimer h) × (t < n) × (known u ≡ ByStarter h) × (u < n)
-Knows known n h Refused = Unit {0}
-
--- the hosts and words stand for this configuration of the word machine by trees
-pub record StandsFor (p : CastScript) (k : Hosts) (c : Core) : Type 0 where
-  pub words : k.words ≡ c.words
-  pub made : k.made ≡ length c.seats
-  pub main : 0 < length c.seats
-  pub known : ℕ → Known
-  pub threads : (u : ℕ) (q : Seat) → slice_get c.seats u ≡ Some q → IsKnown p k u q (known u)
-  pub hosts : (h : ℕ) → Knows known (length c.seats) h (k.hosts h)
-  -- the start words of a thread that isn't made are 0
-  pub unmade : (u : ℕ) → length c.seats < u + 1 → k.slots u ≡ record { header = HEmpty; args = [] }
-
--- each header that unpacks is a function of the script at a merged type of its arity, whose argument words are stored; and
--- each argument word that is loaded is there
-pub record HostsRight (p : CastScript) (k : Hosts) : Type 0 where
-  pub headers : (u g : ℕ) (m : Ty) → (k.slots u).header ≡ HFunc g m → IsFunctionOf p g m × (length (k.slots u).args ≡ arity m)
-  pub loads : (h t g : ℕ) (m : Ty) (loaded : List Val) → k.hosts h ≡ Loads t g m loaded
-      → (v : Val) × (slice_get (k.slots t).args (length loaded) ≡ Some v)
-
-abbrev pub HostsFollow : Type 0
-HostsFollow =
-    (p : CastScript) → IsTypedProgram p → (s : Settings) (events : List Event) →
-    StandsFor p (after_events p s hosts_start events) (after_ticks p s (core_start p) (ticks_of p s hosts_start events))
-    × HostsRight p (after_events p s hosts_start events)
-    × Follows p s (after_ticks p s (core_start p) (ticks_of p s hosts_start events))
-    (picks_of p s (core_start p) (ticks_of p s hosts_start events))
-
--- One event more: no heap word's type gets less precise, and the picks gain steps of the thread that its host runs, or none.
-abbrev pub HostsMore : Type 0
-HostsMore =
-    (p : CastScript) → IsTypedProgram p → (s : Settings) (events : List Event) (e : Event) →
-    (after_events p s hosts_start (events ++ e ∷ []) ≡ happens p s (after_events p s hosts_start events) e)
-    × Extends ((after_events p s hosts_start events).words).heap ((happens p s (after_events p s hosts_start events) e).words).heap
-    × (picks_of p s (core_start p) (ticks_of p s hosts_start (events ++ e ∷ []))
-    ≡ picks_of p s (core_start p) (ticks_of p s hosts_start events) ++ picks_of p s
-    (after_ticks p s (core_start p) (ticks_of p s hosts_start events)) (event_ticks (after_events p s hosts_start events) e))
-    × ((h t : ℕ) (q : Seat) → (after_events p s hosts_start events).hosts h ≡ Runs t q
-    → OnlyOf t (picks_of p s (after_ticks p s (core_start p) (ticks_of p s hosts_start events))
-    (event_ticks (after_events p s hosts_start events) (Acts h))))

@@ -1,16 +1,15 @@
--- The run in the order of a seed, by hosts: thread t is run by host t, which is begun when t is picked first.
-use Rattle.std.specs.Prelude.{◌≡◌, ℕ, zero, suc, ◌+◌, Bool, true, false, List, [], ◌∷◌, length, Option, Some, None, is_some, if◌then◌else◌}
+-- Computed: the run in the order of a seed, by hosts: thread t is run by host t, which is begun when t is picked first.
+use Rattle.std.specs.Prelude.{ℕ, zero, suc, ◌+◌, Bool, true, false, List, [], ◌∷◌, length, Option, Some, None, is_some, if◌then◌else◌}
 use Rattle.std.specs.Prelude.{slice_get}
 use Rattle.mono_syntax.specs.declared.cast.CastScript.{CastScript}
-use Rattle.mono_tree.specs.TypedPrograms.{IsTypedProgram}
+use Rattle.cast_machine.specs.Step.{next_seed, pick}
 use Rattle.cast_machine.specs.declared.data.Settings.{Settings}
-use Rattle.cast_machine.specs.Step.{next_seed, pick, start_of}
-use Rattle.cast_machine.specs.computed.Seeded.{seeded}
-use Rattle.word_machine.specs.Words.{Core, next_action, is_step, next_steps, stands}
-use Rattle.word_machine.specs.Hosts.{Header, HFunc, Host, Idle, Claims, Runs, Starts, Hosts, put, acts, arity, hosts_start, StandsFor}
-use Rattle.word_machine.specs.Arrive.{acts_of}
-use Rattle.cast_machine.specs.RunLimits.{HasSmallBlocks}
-use Rattle.word_machine.specs.Solo.{seat_rank, state_runs}
+use Rattle.word_machine.specs.Arrives.{acts_of}
+use Rattle.word_machine.specs.Hosts.{Header, HFunc, Host, Idle, Claims, Runs, Starts, Hosts, put, acts, arity}
+use Rattle.word_machine.specs.Seats.{next_action}
+use Rattle.word_machine.specs.Ticks.{is_step, next_steps}
+use Rattle.word_machine.specs.computed.Ranks.{seat_rank}
+use Rattle.word_machine.specs.computed.SeededTicks.{state_runs}
 
 -- whether the next act of a host is the step of its thread
 abbrev pub host_steps : CastScript → Settings → Hosts → Host → Bool
@@ -67,11 +66,3 @@ abbrev pub host_seeded : CastScript → Settings → ℕ → ℕ → Hosts → H
 host_seeded p s zero seed k = k
 host_seeded p s (suc n) seed k = if is_some (k.words).end then k
     else host_seeded p s n (next_seed seed) (host_pick p s k (host_thread k (next_seed seed)))
-
--- what the hosts come to stands for what the calculus comes to in the order of the seed
-abbrev pub HostsSeeded : Type 0
-HostsSeeded =
-    (p : CastScript) → IsTypedProgram p → HasSmallBlocks p → (s : Settings) (n seed : ℕ) →
-    ((c : Core) × StandsFor p (host_seeded p s n seed hosts_start) c × (stands s c ≡ seeded p n seed (start_of p s)))
-    × ((host_seeded p s n seed hosts_start).words.lines ≡ (seeded p n seed (start_of p s)).lines)
-    × ((host_seeded p s n seed hosts_start).words.end ≡ (seeded p n seed (start_of p s)).end)

@@ -2,13 +2,13 @@
 use Rattle.std.specs.Prelude.{◌≡◌, ℕ, List, Some, slice_get}
 use Rattle.mono_syntax.specs.declared.cast.CastScript.{CastScript}
 use Rattle.mono_tree.specs.TypedPrograms.{IsTypedProgram}
+use Rattle.cast_machine.specs.RunLimits.{HasSmallBlocks}
 use Rattle.cast_machine.specs.declared.data.Settings.{Settings}
 use Rattle.cast_machine.specs.declared.data.State.{State}
+use Rattle.word_machine.specs.Hosts.{Runs, Event, after_events, hosts_start}
+use Rattle.word_machine.specs.Seats.{Seat, NRest, next_action}
+use Rattle.word_machine.specs.Ticks.{Core, core_start, after_ticks}
 use Rattle.cast_machine.specs.declared.data.State.TheVariants as state
-use Rattle.cast_machine.specs.RunLimits.{HasSmallBlocks}
-use Rattle.word_machine.specs.Words.{Seat, NRest, next_action, Core}
-use Rattle.word_machine.specs.Follows.{core_start}
-use Rattle.word_machine.specs.Hosts.{Runs, Event, after_events, after_ticks, hosts_start}
 
 abbrev pub MayRest : State → Type 0
 MayRest (state.Running f below) = ⊥

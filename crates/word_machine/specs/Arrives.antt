@@ -1,12 +1,12 @@
 -- A host that claims or stores start words comes to run its thread, by so many actions of its own.
 use Rattle.std.specs.Prelude.{◌≡◌, ℕ, zero, suc, ◌+◌, List, length}
 use Rattle.mono_syntax.specs.Ty.{Ty}
-use Rattle.mono_syntax.specs.declared.value.Val.{Val}
 use Rattle.mono_syntax.specs.declared.cast.CastScript.{CastScript}
+use Rattle.mono_syntax.specs.declared.value.Val.{Val}
 use Rattle.mono_tree.specs.TypedPrograms.{IsTypedProgram}
 use Rattle.cast_machine.specs.declared.data.Settings.{Settings}
-use Rattle.word_machine.specs.Words.{Seat}
 use Rattle.word_machine.specs.Hosts.{HEmpty, HFunc, Claims, Runs, Starts, Hosts, Event, acts, arity, main_seat, after_events, hosts_start}
+use Rattle.word_machine.specs.Seats.{Seat}
 
 abbrev pub acts_of : CastScript → Settings → ℕ → Hosts → ℕ → Hosts
 acts_of p s zero k h = k

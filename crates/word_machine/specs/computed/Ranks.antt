@@ -1,0 +1,70 @@
+-- Computed: how far a thread is from its step, and its ticks alone until then.
+use Rattle.std.specs.Prelude.{ℕ, zero, suc, ◌+◌, Bool, true, false, List, [], ◌∷◌, length, Option, Some, None, nat_eq, if◌then◌else◌}
+use Rattle.std.specs.Prelude.{slice_get}
+use Rattle.mono_syntax.specs.declared.cast.CastScript.{CastScript}
+use Rattle.cast_machine.specs.Calls.{words_of}
+use Rattle.cast_machine.specs.Heap.{heap_size, cell_at}
+use Rattle.cast_machine.specs.declared.data.Cell.{Cell}
+use Rattle.cast_machine.specs.declared.data.Frame.{Frame}
+use Rattle.cast_machine.specs.declared.data.Settings.{Settings}
+use Rattle.cast_machine.specs.declared.data.State.{State}
+use Rattle.cast_machine.specs.declared.data.Work.{Work}
+use Rattle.word_machine.specs.Seats.{Micro, Seen, Count, Filling, Seeing, Seat, guess}
+use Rattle.word_machine.specs.Ticks.{Core, tick, tick_steps}
+use Rattle.word_machine.specs.Tops.{Top, TCell, TNew, TPrint, TLeave, TJoin, TBegin, top_of}
+use Rattle.word_machine.specs.Words.{Words, same_cell}
+use Rattle.cast_machine.specs.declared.data.State.TheVariants as state
+use Rattle.cast_machine.specs.declared.data.Work.TheVariants as work
+
+-- thread t ticks until a tick is the step, at most n times
+abbrev pub solo : CastScript → Settings → ℕ → Core → ℕ → Core
+solo p s zero k t = k
+solo p s (suc n) k t = if tick_steps p s k t then tick p s k t else solo p s n (tick p s k t) t
+
+-- ---- how far a thread is from its step
+
+abbrev pub one_or_two : Bool → ℕ
+one_or_two true = 1
+one_or_two false = 2
+
+abbrev pub seen_rank : Cell → Option Cell → ℕ
+seen_rank d None = 2
+seen_rank d (Some now) = one_or_two (same_cell d now)
+
+abbrev pub leave_rank : ℕ → ℕ → List ℕ → ℕ
+leave_rank c w [] = one_or_two (nat_eq c w)
+leave_rank c w (u ∷ left) = 3 + length left
+
+abbrev pub top_rank : Words → ℕ → Frame → Top → Micro → ℕ
+top_rank w made f (TCell a x v) (Seen d) = seen_rank d (cell_at w.heap a x)
+top_rank w made f (TNew o g) (Count c) = one_or_two (nat_eq c (heap_size w.heap))
+top_rank w made f (TPrint args g) (Count c) = one_or_two (nat_eq c (words_of w.lines))
+top_rank w made f (TBegin x j d m args g) (Count c) = one_or_two (nat_eq c made)
+top_rank w made f (TJoin u) (Count c) = 1
+top_rank w made f TLeave (Seeing left c) = leave_rank c (words_of w.lines) left
+top_rank w made f t m = 4 + length f.started
+
+abbrev pub work_rank : CastScript → Words → ℕ → Micro → Frame → List Work → ℕ
+work_rank p w made m f [] = 0
+work_rank p w made m f (i ∷ is) = top_rank w made (record f { work = is }) (top_of p i (record f { work = is })) m
+
+abbrev pub state_rank : CastScript → Words → ℕ → Micro → State → ℕ
+state_rank p w made m (state.Running f below) = work_rank p w made m f f.work
+state_rank p w made m (state.Failing e) = one_or_two (nat_eq (guess m) (words_of w.lines))
+state_rank p w made m st = 0
+
+-- no rank of a state behind its fills is more
+abbrev pub base_rank : State → ℕ
+base_rank (state.Running f below) = 5 + length f.started
+base_rank st = 3
+
+abbrev pub seat_rank : CastScript → Words → ℕ → Micro → State → ℕ
+seat_rank p w made (Filling b left) st = base_rank st + left
+seat_rank p w made m st = state_rank p w made m st
+
+abbrev pub rank_in : CastScript → Core → Option Seat → ℕ
+rank_in p k None = 0
+rank_in p k (Some q) = seat_rank p k.words (length k.seats) q.micro q.state
+
+abbrev pub rank : CastScript → Core → ℕ → ℕ
+rank p k t = rank_in p k (slice_get k.seats t)
