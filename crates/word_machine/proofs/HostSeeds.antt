@@ -35,10 +35,14 @@ use Rattle.word_machine.proofs.Tick.{tick_ok}
 use Rattle.word_machine.proofs.Follow.{start_core}
 use Rattle.word_machine.proofs.Begins.{drawn_steps}
 use Rattle.word_machine.proofs.Lively.{AllLively, main_lively}
-use Rattle.word_machine.proofs.Hosting.{put_here, put_other, there, get_behind, append_one, length_more, alone_ok, load_ok, start_ok}
-use Rattle.word_machine.proofs.Hosting.{claim_ok, runs_seat, ticked_ok, hosts_right, start_held}
+use Rattle.word_machine.proofs.HostChanges.{put_here, put_other, there, get_behind, append_one, length_more}
+use Rattle.word_machine.proofs.HostActs.{alone_ok, load_ok, start_ok}
+use Rattle.word_machine.proofs.HostActs.{claim_ok, runs_seat}
+use Rattle.word_machine.proofs.HostDraws.{ticked_ok}
+use Rattle.word_machine.proofs.Hosting.{hosts_right, start_held}
 use Rattle.word_machine.proofs.Arriving.{one_act, claim_is, thread_end, starts_end, more_left}
-use Rattle.word_machine.proofs.Solo.{pick_to, solo_ok, runs_right, solo_first, solo_more}
+use Rattle.word_machine.proofs.Picks.{pick_to, solo_ok, solo_first, solo_more}
+use Rattle.word_machine.proofs.SeededWords.{runs_right}
 
 -- ---- another host stays
 

@@ -49,7 +49,8 @@ use Rattle.word_machine.proofs.CoreOk.{fin, Finishes, seen_grows, SeatBy, CoreOk
 use Rattle.word_machine.proofs.Leaf.{typed, typ, no_row}
 use Rattle.word_machine.proofs.Tick.{left_all, tick_ok}
 use Rattle.word_machine.proofs.Follow.{start_core}
-use Rattle.word_machine.proofs.Hosting.{events_ok, runs_seat, start_held}
+use Rattle.word_machine.proofs.Hosting.{events_ok, start_held}
+use Rattle.word_machine.proofs.HostActs.{runs_seat}
 
 -- ---- what is kept
 
