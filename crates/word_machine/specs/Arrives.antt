@@ -8,10 +8,12 @@ use Rattle.cast_machine.specs.declared.data.Settings.{Settings}
 use Rattle.word_machine.specs.Hosts.{HEmpty, HFunc, Claims, Runs, Starts, Hosts, Event, acts, arity, main_seat, after_events, hosts_start}
 use Rattle.word_machine.specs.Seats.{Seat}
 
+-- so many acts of one host
 abbrev pub acts_of : CastScript → Settings → ℕ → Hosts → ℕ → Hosts
 acts_of p s zero k h = k
 acts_of p s (suc n) k h = acts_of p s n (acts p s k h (k.hosts h)) h
 
+-- how many acts bring a host to run its thread
 pub record Arrives (p : CastScript) (s : Settings) (k : Hosts) : Type 0 where
   -- main, claimed while its header is 0
   pub main : (h : ℕ) → k.hosts h ≡ Claims 0 HEmpty → (k.slots 0).header ≡ HEmpty → (acts_of p s 1 k h).hosts h ≡ Runs 0 (main_seat p)
@@ -22,5 +24,6 @@ pub record Arrives (p : CastScript) (s : Settings) (k : Hosts) : Type 0 where
   pub starter : (h t u g : ℕ) (q : Seat) (m : Ty) (left : List Val) → k.hosts h ≡ Starts t q u g m left
       → (acts_of p s (1 + length left) k h).hosts h ≡ Runs t q
 
+-- after every list of events
 abbrev pub HostsArrive : Type 0
 HostsArrive = (p : CastScript) → IsTypedProgram p → (s : Settings) (events : List Event) → Arrives p s (after_events p s hosts_start events)

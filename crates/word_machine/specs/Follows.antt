@@ -21,10 +21,12 @@ use Rattle.word_machine.specs.Words.{result_at}
 use Rattle.cast_machine.specs.declared.data.State.TheVariants as state
 use Rattle.cast_machine.specs.declared.data.Work.TheVariants as work
 
+-- a step that needs no action
 abbrev pub is_local : Next → Bool
 is_local (NLocal q) = true
 is_local n = false
 
+-- the thread that is there takes a local step next
 abbrev pub local_seat : CastScript → Settings → ℕ → Option Seat → Bool
 local_seat p s t None = false
 local_seat p s t (Some q) = is_local (next_action p s t q)
@@ -45,11 +47,13 @@ Matches p s k t false k' = stands s k' ≡ stands s k
 abbrev pub tick_picks : CastScript → Settings → Core → ℕ → List ℕ
 tick_picks p s k t = if is_some (k.words).end then [] else (if tick_steps p s k t then t ∷ [] else [])
 
+-- the picks of the ticks of an event
 abbrev pub event_picks : CastScript → Settings → ℕ → Core → ℕ → List ℕ
 event_picks p s zero k t = tick_picks p s k t
 event_picks p s (suc n) k t = if local_seat p s t (slice_get k.seats t) then tick_picks p s k t ++ event_picks p s n (tick p s k t) t
     else tick_picks p s k t
 
+-- the thread fills the words of its new object
 abbrev pub is_filling : Micro → Bool
 is_filling (Filling b left) = true
 is_filling m = false
@@ -77,6 +81,7 @@ pub record Follows (p : CastScript) (s : Settings) (k : Core) (picks : List ℕ)
       → f.work ≡ work.Obligation c a x to (Some r) ∷ rest →
       HasType (k.words).heap r.value r.ty
 
+-- each pick is one of thread t
 abbrev pub OnlyOf : ℕ → List ℕ → Type 0
 OnlyOf t [] = Unit {0}
 OnlyOf t (u ∷ us) = (u ≡ t) × OnlyOf t us
@@ -90,9 +95,11 @@ Trace p s n (t ∷ ts) k picks =
     × OnlyOf t (event_picks p s n k t)
     × Trace p s n ts (event p s n k t) (picks ++ event_picks p s n k t)
 
+-- the picks of these ticks, in order
 abbrev pub picks_of : CastScript → Settings → Core → List ℕ → List ℕ
 picks_of p s k [] = []
 picks_of p s k (t ∷ ts) = tick_picks p s k t ++ picks_of p s (tick p s k t) ts
 
+-- every list of events, by the threads that have them, each of at most n local steps and one action
 abbrev pub WordsFollow : Type 0
 WordsFollow = (p : CastScript) → IsTypedProgram p → (s : Settings) (n : ℕ) (events : List ℕ) → Trace p s n events (core_start p) []

@@ -10,12 +10,14 @@ use Rattle.word_machine.specs.Seats.{Seat, NRest, next_action}
 use Rattle.word_machine.specs.Ticks.{Core, core_start, after_ticks}
 use Rattle.cast_machine.specs.declared.data.State.TheVariants as state
 
+-- a thread may rest once it is finished or stopped
 abbrev pub MayRest : State → Type 0
 MayRest (state.Running f below) = ⊥
 MayRest (state.Failing e) = ⊥
 MayRest (state.Finished v) = Unit {0}
 MayRest state.Stopped = Unit {0}
 
+-- each thread that rests may do so
 abbrev pub RestsRight : CastScript → Settings → Core → Type 0
 RestsRight p s k = (t : ℕ) (q : Seat) → slice_get k.seats t ≡ Some q → next_action p s t q ≡ NRest → MayRest q.state
 

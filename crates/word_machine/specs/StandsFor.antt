@@ -23,6 +23,7 @@ pub record Begun (p : CastScript) (g : ℕ) (m : Ty) (args : List Val) (q : Seat
   pub many : length args ≡ arity m
   pub is : q ≡ fresh_seat function m args
 
+-- Where the state of a thread is known from: a host that still stores its start words, these words alone, or the host that claimed it.
 pub data Known : Type 0 where
   ByStarter : (host : ℕ) → Known
   ByWords : Known
@@ -47,6 +48,7 @@ IsClaimed p u q args (Runs t r) = (t ≡ u) × (r ≡ q)
 IsClaimed p u q args (Starts t r v g m left) = (t ≡ u) × (r ≡ q)
 IsClaimed p u q args x = ⊥
 
+-- what stands there says the state of the thread
 abbrev pub IsKnown : CastScript → Hosts → ℕ → Seat → Known → Type 0
 IsKnown p k u q (ByStarter h) = (0 < u) × ((k.slots u).header ≡ HEmpty) × IsStarted p u q (k.slots u).args (k.hosts h)
 IsKnown p k u q ByWords = IsReady p u q (k.slots u).args (k.slots u).header
@@ -80,6 +82,7 @@ pub record HostsRight (p : CastScript) (k : Hosts) : Type 0 where
   pub loads : (h t g : ℕ) (m : Ty) (loaded : List Val) → k.hosts h ≡ Loads t g m loaded
       → (v : Val) × (slice_get (k.slots t).args (length loaded) ≡ Some v)
 
+-- Every list of events: the hosts stand for the word machine after their ticks, which follows the calculus.
 abbrev pub HostsFollow : Type 0
 HostsFollow =
     (p : CastScript) → IsTypedProgram p → (s : Settings) (events : List Event) →

@@ -20,21 +20,26 @@ use Rattle.cast_machine.specs.declared.data.Verdict.TheVariants as verdict
 
 -- ---- configurations
 
+-- a configuration of the word machine by trees: the words, and a seat for each thread that is made
 pub record Core : Type 0 where
   pub words : Words
   pub seats : List Seat
 
+-- the thread of a seat
 abbrev pub thread_of : Seat → Thread
 thread_of q = record { asked = q.asked; state = q.state; steps = q.steps }
 
+-- the threads of the seats
 abbrev pub threads_of : List Seat → List Thread
 threads_of [] = []
 threads_of (q ∷ qs) = thread_of q ∷ threads_of qs
 
 module _ (s : Settings) (k : Core) (t : ℕ) where
+  -- the words behind an action, and the seat behind its answer
   abbrev pub answered : (Answer → Seat) → Words × Answer → Core
   answered res r = record { words = r.0; seats = slice_set k.seats t (res r.1) }
 
+  -- a thread is drawn where the count of threads is the expected one and below 256; it has a seat at once
   abbrev pub begins : (Answer → Seat) → ℕ → Seat → Core
   begins res n new =
       if nat_eq n (length k.seats)
@@ -42,12 +47,14 @@ module _ (s : Settings) (k : Core) (t : ℕ) where
       else record { words = k.words; seats = slice_set k.seats t (res (Drawn (length k.seats))) ++ new ∷ [] })
       else answered res (k.words, Counts (length k.seats))
 
+  -- the configuration behind a next action
   abbrev pub acted : (Answer → Seat) → Next → Core
   acted res (NLocal q) = record { words = k.words; seats = slice_set k.seats t q }
   acted res NRest = k
   acted res (NWants a) = answered res (apply s k.words a)
   acted res (NBegins n j m args new) = begins res n new
 
+-- a tick of a thread that is there
 abbrev pub tick_seat : CastScript → Settings → Core → ℕ → Option Seat → Core
 tick_seat p s k t None = k
 tick_seat p s k t (Some q) = acted s k t (resume p s q) (next_action p s t q)
@@ -58,10 +65,12 @@ tick p s k t = tick_seat p s k t (slice_get k.seats t)
 
 -- ---- the configuration for which it stands
 
+-- every object is shown, also one that waits
 abbrev pub reveal : Heap → Heap
 reveal [] = []
 reveal (o ∷ h) = record o { waits = 0; maker = 0 } ∷ reveal h
 
+-- the configuration of the calculus for which the words stand
 abbrev pub stands : Settings → Core → Configuration
 stands s k = record {
   settings = s;
@@ -80,6 +89,7 @@ verdict_steps below (verdict.Goes g) = true
 verdict_steps below (verdict.Fails e) = true
 verdict_steps below (verdict.Sets new g) = deep (state.Running g below)
 
+-- a look at a cell that is there
 abbrev pub look_steps : List Frame → (Cell → Verdict) → Option Cell → Bool
 look_steps below v None = false
 look_steps below v (Some d) = verdict_steps below (v d)
@@ -102,6 +112,7 @@ module _ (p : CastScript) (s : Settings) where
   top_steps i f below (TBegin x j d t args g) (Drawn u) = true
   top_steps i f below t a = false
 
+  -- that of the top item
   abbrev pub work_steps : Frame → List Frame → List Work → Answer → Bool
   work_steps f below [] a = false
   work_steps f below (i ∷ is) a = top_steps i (record f { work = is }) below (top_of p i (record f { work = is })) a
@@ -111,6 +122,7 @@ module _ (p : CastScript) (s : Settings) where
   end_steps Kept = true
   end_steps a = false
 
+  -- filling a word is no step, nor is anything that a thread does once it is finished or stopped
   abbrev pub steps_by : Micro → State → Answer → Bool
   steps_by (Filling b left) st a = false
   steps_by m (state.Running f below) a = work_steps f below f.work a
@@ -125,12 +137,14 @@ module _ (p : CastScript) (s : Settings) where
   abbrev pub begin_answer : ℕ → ℕ → Answer
   begin_answer made n = if nat_eq n made then (if nat_le 256 made then Full else Drawn made) else Counts made
 
+  -- whether a next action is the step, by what the words answer
   abbrev pub next_steps : Words → ℕ → (Answer → Bool) → Next → Bool
   next_steps w made by (NLocal q) = true
   next_steps w made by NRest = false
   next_steps w made by (NWants a) = by (apply s w a).1
   next_steps w made by (NBegins n j m args new) = by (begin_answer made n)
 
+  -- whether a tick of a thread that is there is the step
   abbrev pub seat_steps : Core → ℕ → Option Seat → Bool
   seat_steps k t None = false
   seat_steps k t (Some q) = next_steps k.words (length k.seats) (is_step q) (next_action p s t q)
@@ -141,11 +155,12 @@ module _ (p : CastScript) (s : Settings) where
 
 -- ---- the start
 
--- no word is drawn, and the main thread begins
+-- so many result words, all empty
 abbrev pub empty_results : ℕ → List (Option Val)
 empty_results zero = []
 empty_results (suc n) = None ∷ empty_results n
 
+-- the main thread begins; no word is drawn
 abbrev pub core_start : CastScript → Core
 core_start p = record {
   words = record { heap = []; lines = []; results = empty_results 256; end = None };
@@ -154,6 +169,7 @@ core_start p = record {
 
 -- ---- many ticks
 
+-- the configuration after ticks of these threads
 abbrev pub after_ticks : CastScript → Settings → Core → List ℕ → Core
 after_ticks p s k [] = k
 after_ticks p s k (t ∷ ts) = after_ticks p s (tick p s k t) ts

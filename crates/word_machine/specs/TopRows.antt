@@ -56,6 +56,7 @@ pub record BeginSays (p : CastScript) (i : Work) (f : Frame) (x : List ℕ) (j :
   pub taken : take_args count f.values [] ≡ Some (args, rest)
   pub at : slice_get p.functions j ≡ Some d
 
+-- What an item wants says what its row is: by itself, by one cell, by a draw, or by what is finished.
 abbrev pub TopSays : CastScript → Configuration → Work → Frame → List Frame → Top → Type 0
 TopSays p c i f below TLocal = act p c i f below ≡ lift (own p c.settings i f below)
 TopSays p c i f below TLook = act p c i f below ≡ lift (own p c.settings i f below)
@@ -93,5 +94,6 @@ TopSays p c i f below (TBegin x j d m args g) =
     × BeginSays p i f x j d m args
     × (frame_items g ≤ frame_items f)
 
+-- of every item, in every configuration
 abbrev pub TopsSay : Type 0
 TopsSay = (p : CastScript) (c : Configuration) (i : Work) (f : Frame) (below : List Frame) → TopSays p c i f below (top_of p i f)

@@ -16,10 +16,12 @@ abbrev pub host_steps : CastScript → Settings → Hosts → Host → Bool
 host_steps p s k (Runs t q) = next_steps p s k.words k.made (is_step p s q) (next_action p s t q)
 host_steps p s k x = false
 
+-- acts of host h until one is the step, at most n of them
 abbrev pub host_solo : CastScript → Settings → ℕ → Hosts → ℕ → Hosts
 host_solo p s zero k h = k
 host_solo p s (suc n) k h = if host_steps p s k (k.hosts h) then acts p s k h (k.hosts h) else host_solo p s n (acts p s k h (k.hosts h)) h
 
+-- how many acts its thread needs at most until its step
 abbrev pub host_rank : CastScript → Hosts → Host → ℕ
 host_rank p k (Runs t q) = seat_rank p k.words k.made q.micro q.state
 host_rank p k x = 0
@@ -39,9 +41,11 @@ abbrev pub settle_in : CastScript → Settings → Hosts → ℕ → Host → Ho
 settle_in p s k t (Starts u q v g m left) = acts_of p s (suc (length left)) k t
 settle_in p s k t x = k
 
+-- the host of the picked thread acts until the step
 abbrev pub alone_in : CastScript → Settings → Hosts → ℕ → Hosts
 alone_in p s k t = host_solo p s (suc (host_rank p k (k.hosts t))) k t
 
+-- and then stores the start words of a thread that it drew
 abbrev pub settled_in : CastScript → Settings → Hosts → ℕ → Hosts
 settled_in p s k t = settle_in p s k t (k.hosts t)
 
@@ -55,13 +59,16 @@ abbrev pub host_runs : Hosts → Host → Bool
 host_runs k (Runs t q) = state_runs k.words q.state
 host_runs k x = true
 
+-- the threads that can go on, in number order, from n on
 abbrev pub hosts_from : Hosts → ℕ → ℕ → List ℕ
 hosts_from k n zero = []
 hosts_from k n (suc count) = if host_runs k (k.hosts n) then n ∷ hosts_from k (n + 1) count else hosts_from k (n + 1) count
 
+-- the thread that a seed picks
 abbrev pub host_thread : Hosts → ℕ → Option ℕ
 host_thread k seed = slice_get (hosts_from k 0 k.made) (pick seed (length (hosts_from k 0 k.made)))
 
+-- n picks by the seeds that follow, or fewer where an end is recorded
 abbrev pub host_seeded : CastScript → Settings → ℕ → ℕ → Hosts → Hosts
 host_seeded p s zero seed k = k
 host_seeded p s (suc n) seed k = if is_some (k.words).end then k

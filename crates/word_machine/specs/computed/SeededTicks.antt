@@ -17,6 +17,7 @@ use Rattle.cast_machine.specs.declared.data.Work.TheVariants as work
 
 -- ---- the order of a seed, by words
 
+-- each of these results is stored
 abbrev pub all_results : List (Option Val) → List ℕ → Bool
 all_results rs [] = true
 all_results rs (t ∷ ts) = is_some (result_at rs t) && all_results rs ts
@@ -27,11 +28,13 @@ work_runs w f (work.Join u ∷ is) = is_some (result_at w.results u)
 work_runs w f (work.Leave ∷ is) = all_results w.results f.started
 work_runs w f is = true
 
+-- a thread can go on: it runs and does not wait, or it fails
 abbrev pub state_runs : Words → State → Bool
 state_runs w (state.Running f below) = work_runs w f f.work
 state_runs w (state.Failing e) = true
 state_runs w st = false
 
+-- the threads that can go on, in number order
 abbrev pub runs_from : Words → ℕ → List Seat → List ℕ
 runs_from w n [] = []
 runs_from w n (q ∷ qs) = if state_runs w q.state then n ∷ runs_from w (n + 1) qs else runs_from w (n + 1) qs
@@ -40,6 +43,7 @@ runs_from w n (q ∷ qs) = if state_runs w q.state then n ∷ runs_from w (n + 1
 abbrev pub word_thread : Core → ℕ → Option ℕ
 word_thread k seed = slice_get (runs_from k.words 0 k.seats) (pick seed (length (runs_from k.words 0 k.seats)))
 
+-- the ticks of the picked thread until its step
 abbrev pub word_pick : CastScript → Settings → Core → Option ℕ → Core
 word_pick p s k None = k
 word_pick p s k (Some t) = solo p s (suc (rank p k t)) k t
