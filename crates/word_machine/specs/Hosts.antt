@@ -2,6 +2,7 @@
 -- by which a thread is started.
 use Rattle.std.specs.Prelude.{ℕ, ◌+◌, Bool, true, false, ◌&&◌, List, [], ◌∷◌, ◌++◌, length, Option, Some, None, nat_eq, nat_le, nat_lt}
 use Rattle.std.specs.Prelude.{if◌then◌else◌, slice_get}
+use Rattle.mono_syntax.specs.Limits.{most_threads}
 use Rattle.mono_syntax.specs.Ty.{Ty}
 use Rattle.mono_syntax.specs.declared.cast.CastFunction.{CastFunction}
 use Rattle.mono_syntax.specs.declared.cast.CastScript.{CastScript}
@@ -120,7 +121,7 @@ module _ (p : CastScript) (s : Settings) (k : Hosts) (h : ℕ) where
   abbrev pub draws : ℕ → (Answer → Seat) → ℕ → ℕ → Ty → List Val → Hosts
   draws t res n g m args =
       if nat_eq n k.made
-      then (if nat_le 256 k.made then becomes (Runs t (res Full))
+      then (if nat_le most_threads k.made then becomes (Runs t (res Full))
       else record k { made = k.made + 1; hosts = put k.hosts h (Starts t (res (Drawn k.made)) k.made g m args) })
       else becomes (Runs t (res (Counts k.made)))
 
@@ -153,7 +154,7 @@ pub data Event : Type 0 where
 
 -- only the first 256 numbers are hosts
 abbrev pub within : ℕ → Hosts → Hosts → Hosts
-within h k k' = if nat_lt h 256 then k' else k
+within h k k' = if nat_lt h most_threads then k' else k
 
 -- what is there after an event; a begin names a host, and where the host is not idle it does nothing
 abbrev pub happens : CastScript → Settings → Hosts → Event → Hosts
@@ -168,7 +169,7 @@ host_ticks x = []
 
 -- the threads that tick by an event: the one that its host runs, or none
 abbrev pub event_ticks : Hosts → Event → List ℕ
-event_ticks k (Acts h) = if nat_lt h 256 then host_ticks (k.hosts h) else []
+event_ticks k (Acts h) = if nat_lt h most_threads then host_ticks (k.hosts h) else []
 event_ticks k e = []
 
 -- the hosts after these events
@@ -184,7 +185,7 @@ ticks_of p s k (e ∷ es) = event_ticks k e ++ ticks_of p s (happens p s k e) es
 -- every seat is idle, and every word is 0 but the count of threads, which is 1
 abbrev pub hosts_start : Hosts
 hosts_start = record {
-  words = record { heap = []; lines = []; results = empty_results 256; end = None };
+  words = record { heap = []; lines = []; results = empty_results most_threads; end = None };
   slots = λ u. record { header = HEmpty; args = [] };
   made = 1;
   hosts = λ h. Idle;

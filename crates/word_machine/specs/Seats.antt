@@ -1,5 +1,6 @@
 -- A thread beside the words: its micro-state, its next action, and its state behind the answer.
 use Rattle.std.specs.Prelude.{ℕ, zero, suc, ◌+◌, ◌-◌, Bool, List, [], ◌∷◌, ◌++◌, length, Option, Some, None, nat_lt, if◌then◌else◌}
+use Rattle.mono_syntax.specs.Limits.{most_items}
 use Rattle.mono_syntax.specs.Ty.{Ty}
 use Rattle.mono_syntax.specs.declared.cast.CastFunction.{CastFunction}
 use Rattle.mono_syntax.specs.declared.cast.CastScript.{CastScript}
@@ -48,7 +49,7 @@ pub record Seat : Type 0 where
 
 -- a state has too many items
 abbrev pub deep : State → Bool
-deep st = nat_lt 16384 (items_of st)
+deep st = nat_lt most_items (items_of st)
 
 -- the state behind a step: too many items or no fuel left make the thread fail
 abbrev pub after : Settings → ℕ → State → State

@@ -1,6 +1,7 @@
 -- The word machine by trees: a tick of one thread, the configuration for which the words stand, and which ticks are its steps.
 use Rattle.std.specs.Prelude.{ℕ, Bool, true, false, List, [], ◌∷◌, ◌++◌, length, Option, Some, None, is_some, nat_eq, nat_le, if◌then◌else◌}
 use Rattle.std.specs.Prelude.{slice_get, slice_set, zero, suc}
+use Rattle.mono_syntax.specs.Limits.{most_threads}
 use Rattle.mono_syntax.specs.declared.cast.CastScript.{CastScript}
 use Rattle.mono_syntax.specs.declared.value.Val.{Val}
 use Rattle.cast_machine.specs.Heap.{Heap}
@@ -43,7 +44,7 @@ module _ (s : Settings) (k : Core) (t : ℕ) where
   abbrev pub begins : (Answer → Seat) → ℕ → Seat → Core
   begins res n new =
       if nat_eq n (length k.seats)
-      then (if nat_le 256 (length k.seats) then answered res (k.words, Full)
+      then (if nat_le most_threads (length k.seats) then answered res (k.words, Full)
       else record { words = k.words; seats = slice_set k.seats t (res (Drawn (length k.seats))) ++ new ∷ [] })
       else answered res (k.words, Counts (length k.seats))
 
@@ -135,7 +136,7 @@ module _ (p : CastScript) (s : Settings) where
 
   -- what a draw of a thread answers where so many are made
   abbrev pub begin_answer : ℕ → ℕ → Answer
-  begin_answer made n = if nat_eq n made then (if nat_le 256 made then Full else Drawn made) else Counts made
+  begin_answer made n = if nat_eq n made then (if nat_le most_threads made then Full else Drawn made) else Counts made
 
   -- whether a next action is the step, by what the words answer
   abbrev pub next_steps : Words → ℕ → (Answer → Bool) → Next → Bool
@@ -163,7 +164,7 @@ empty_results (suc n) = None ∷ empty_results n
 -- the main thread begins; no word is drawn
 abbrev pub core_start : CastScript → Core
 core_start p = record {
-  words = record { heap = []; lines = []; results = empty_results 256; end = None };
+  words = record { heap = []; lines = []; results = empty_results most_threads; end = None };
   seats = record { asked = None; state = state.Running (main_frame p) []; steps = 0; micro = Quick } ∷ [];
 }
 

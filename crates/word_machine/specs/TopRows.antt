@@ -1,6 +1,7 @@
 -- What the top item of a thread wants of the words says what its row is.
 use Rattle.std.specs.Prelude.{◌≡◌, ◌⊎◌, ◌≤◌, ℕ, ◌+◌, Bool, true, false, List, [], ◌∷◌, ◌++◌, length, Option, Some, None, nat_le}
 use Rattle.std.specs.Prelude.{if◌then◌else◌, slice_get}
+use Rattle.mono_syntax.specs.Limits.{most_threads}
 use Rattle.mono_syntax.specs.Ty.{Ty}
 use Rattle.mono_syntax.specs.declared.cast.CastFunction.{CastFunction}
 use Rattle.mono_syntax.specs.declared.cast.CastScript.{CastScript}
@@ -85,7 +86,7 @@ TopSays p c i f below TLeave = act p c i f below ≡ (if all_finished c.threads 
 TopSays p c i f below (TJoin u) = act p c i f below ≡ join_of (finished c.threads u) f below
 TopSays p c i f below (TBegin x j d m args g) =
     (act p c i f below ≡
-    (if nat_le 256 (length c.threads)
+    (if nat_le most_threads (length c.threads)
     then fails ends.ThreadLimit
     else outcome.Moves
     (change.Begins (record { asked = Some (result_of m); state = state.Running (called d m args) []; steps = 0 }))
