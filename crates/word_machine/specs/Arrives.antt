@@ -15,7 +15,7 @@ acts_of p s (suc n) k h = acts_of p s n (acts p s k h (k.hosts h)) h
 
 -- how many acts bring a host to run its thread
 pub record Arrives (p : CastScript) (s : Settings) (k : Hosts) : Type 0 where
-  -- main, claimed while its header is 0
+  -- the main thread, claimed while its header is empty
   pub main : (h : ℕ) → k.hosts h ≡ Claims 0 HEmpty → (k.slots 0).header ≡ HEmpty → (acts_of p s 1 k h).hosts h ≡ Runs 0 (main_seat p)
   -- another thread, claimed with the word of its header: the claim and a load for each argument
   pub thread : (h t g : ℕ) (m : Ty) → k.hosts h ≡ Claims t (HFunc g m) → (k.slots t).header ≡ HFunc g m

@@ -69,13 +69,14 @@ pub record Follows (p : CastScript) (s : Settings) (k : Core) (picks : List ℕ)
   pub steps : (t : ℕ) → (k.words).end ≡ None → Matches p s k t (tick_steps p s k t) (tick p s k t)
   -- each result word is the value of its finished thread
   pub results : (u : ℕ) → result_at (k.words).results u ≡ finished (stands s k).threads u
-  -- which is well typed, also behind the end
+  -- heap and threads are well typed, also behind the end
   pub heap : IsWellTypedHeap (stands s k).heap
   pub own : IsHeapOf p (stands s k).heap
   pub threads : (t : ℕ) (th : Thread) → slice_get (stands s k).threads t ≡ Some th
       → IsWellTypedState p (results_of (stands s k).threads) t (stands s k).heap (result_type th) th.state
   -- each filled field's value has its recorded type
   pub typed : (a : ℕ) (x : List ℕ) (d : Cell) → cell_at (k.words).heap a x ≡ Some d → HasType (k.words).heap d.value d.ty
+  -- a value that an obligation on top has fitted has the type to which it was fitted
   pub ready : (t : ℕ) (q : Seat) (f : Frame) (below : List Frame) (c a : ℕ) (x : List ℕ) (to : Ty) (r : Ready) (rest : List Work) →
       slice_get k.seats t ≡ Some q → is_filling q.micro ≡ false → q.state ≡ state.Running f below
       → f.work ≡ work.Obligation c a x to (Some r) ∷ rest →

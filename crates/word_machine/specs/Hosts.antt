@@ -1,4 +1,4 @@
--- The word machine with its hosts: 256 seats that are begun, claim a thread, load its arguments and run it, and the words
+-- The word machine with its hosts: 256 hosts that are begun, claim a thread, load its arguments and run it, and the words
 -- by which a thread is started.
 use Rattle.std.specs.Prelude.{ℕ, ◌+◌, Bool, true, false, ◌&&◌, List, [], ◌∷◌, ◌++◌, length, Option, Some, None, nat_eq, nat_le, nat_lt}
 use Rattle.std.specs.Prelude.{if◌then◌else◌, slice_get}
@@ -39,7 +39,7 @@ same_header h k = false
 
 -- ---- the hosts
 
--- a host: a seat that runs one thread at most, once it is begun
+-- a host runs one thread at most, once it is begun
 pub data Host : Type 0 where
   -- it is not begun
   Idle : Host
@@ -146,7 +146,7 @@ module _ (p : CastScript) (s : Settings) (k : Hosts) (h : ℕ) where
   begins t w Idle = becomes (Claims t w)
   begins t w x = k
 
--- one of the 256 seats acts, or is begun with main, or with a thread, a function and a merged type
+-- one of the 256 hosts acts, or is begun with the main thread, or with a thread, a function and a merged type
 pub data Event : Type 0 where
   Acts : (host : ℕ) → Event
   BeginsMain : (host : ℕ) → Event
@@ -182,7 +182,7 @@ abbrev pub ticks_of : CastScript → Settings → Hosts → List Event → List 
 ticks_of p s k [] = []
 ticks_of p s k (e ∷ es) = event_ticks k e ++ ticks_of p s (happens p s k e) es
 
--- every seat is idle, and every word is 0 but the count of threads, which is 1
+-- every host is idle, no word is drawn, no header or argument is stored, and the main thread is the only one made
 abbrev pub hosts_start : Hosts
 hosts_start = record {
   words = record { heap = []; lines = []; results = empty_results most_threads; end = None };

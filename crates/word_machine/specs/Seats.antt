@@ -89,6 +89,8 @@ fresh_seat d m args = record { asked = Some (result_of m); state = state.Running
 abbrev pub put_begun : Frame → List ℕ → ℕ → Frame
 put_begun f x u = record f { handles = update f.handles x (Some u); started = f.started ++ u ∷ [] }
 
+-- ---- the next action
+
 -- what a thread does next: a step by itself, nothing, an action on the words, or the start of a thread
 pub data Next : Type 0 where
   -- the seat behind a step that needs no action
@@ -163,6 +165,8 @@ module _ (p : CastScript) (s : Settings) (me : ℕ) (q : Seat) where
 -- the next action of a seat; me is its number
 abbrev pub next_action : CastScript → Settings → ℕ → Seat → Next
 next_action p s me q = next_by p s me q q.micro q.state
+
+-- ---- behind the answer
 
 module _ (p : CastScript) (s : Settings) (q : Seat) where
   -- a look whose verdict sets nothing is the step

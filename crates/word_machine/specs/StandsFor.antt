@@ -29,7 +29,7 @@ pub data Known : Type 0 where
   ByWords : Known
   ByClaimer : (host : ℕ) → Known
 
--- main's header is 0 until it is claimed; another thread's is its function's word
+-- the main thread's header is empty until it is claimed; another thread's is its function's word
 abbrev pub IsReady : CastScript → ℕ → Seat → List Val → Header → Type 0
 IsReady p u q args HEmpty = (u ≡ 0) × (q ≡ main_seat p)
 IsReady p u q args (HFunc g m) = (0 < u) × Begun p g m args q
@@ -72,7 +72,7 @@ pub record StandsFor (p : CastScript) (k : Hosts) (c : Core) : Type 0 where
   pub known : ℕ → Known
   pub threads : (u : ℕ) (q : Seat) → slice_get c.seats u ≡ Some q → IsKnown p k u q (known u)
   pub hosts : (h : ℕ) → Knows known (length c.seats) h (k.hosts h)
-  -- the start words of a thread that isn't made are 0
+  -- the start words of a thread that isn't made are empty
   pub unmade : (u : ℕ) → length c.seats < u + 1 → k.slots u ≡ record { header = HEmpty; args = [] }
 
 -- each header that unpacks is a function of the script at a merged type of its arity, whose argument words are stored; and

@@ -21,24 +21,24 @@ abbrev pub solo : CastScript → Settings → ℕ → Core → ℕ → Core
 solo p s zero k t = k
 solo p s (suc n) k t = if tick_steps p s k t then tick p s k t else solo p s n (tick p s k t) t
 
--- ---- how far a thread is from its step
+-- ---- how far a thread is from its step: each tick of the thread alone that is no step makes its rank less
 
--- one tick more where what was looked at still stands, else two
+-- less where what was looked at still stands
 abbrev pub one_or_two : Bool → ℕ
 one_or_two true = 1
 one_or_two false = 2
 
--- an exchange whose cell has moved on looks again
+-- the rank of an exchange: where the cell has moved on, it looks again first
 abbrev pub seen_rank : Cell → Option Cell → ℕ
 seen_rank d None = 2
 seen_rank d (Some now) = one_or_two (same_cell d now)
 
--- looks at results that are left, and at the end
+-- the rank of a thread that leaves: looks at results that are left, and then at the end
 abbrev pub leave_rank : ℕ → ℕ → List ℕ → ℕ
 leave_rank c w [] = one_or_two (nat_eq c w)
 leave_rank c w (u ∷ left) = 3 + length left
 
--- how many ticks the top item needs at most
+-- the rank by the top item
 abbrev pub top_rank : Words → ℕ → Frame → Top → Micro → ℕ
 top_rank w made f (TCell a x v) (Seen d) = seen_rank d (cell_at w.heap a x)
 top_rank w made f (TNew o g) (Count c) = one_or_two (nat_eq c (heap_size w.heap))
@@ -48,12 +48,12 @@ top_rank w made f (TJoin u) (Count c) = 1
 top_rank w made f TLeave (Seeing left c) = leave_rank c (words_of w.lines) left
 top_rank w made f t m = 4 + length f.started
 
--- that of the top item of the work
+-- a frame without work has no step
 abbrev pub work_rank : CastScript → Words → ℕ → Micro → Frame → List Work → ℕ
 work_rank p w made m f [] = 0
 work_rank p w made m f (i ∷ is) = top_rank w made (record f { work = is }) (top_of p i (record f { work = is })) m
 
--- how many ticks a thread that fills nothing needs at most
+-- the rank of a thread that fills nothing
 abbrev pub state_rank : CastScript → Words → ℕ → Micro → State → ℕ
 state_rank p w made m (state.Running f below) = work_rank p w made m f f.work
 state_rank p w made m (state.Failing e) = one_or_two (nat_eq (guess m) (words_of w.lines))
@@ -64,16 +64,16 @@ abbrev pub base_rank : State → ℕ
 base_rank (state.Running f below) = 5 + length f.started
 base_rank st = 3
 
--- the words that are still to be filled come first
+-- the rank of a thread: the words that are still to be filled come first
 abbrev pub seat_rank : CastScript → Words → ℕ → Micro → State → ℕ
 seat_rank p w made (Filling b left) st = base_rank st + left
 seat_rank p w made m st = state_rank p w made m st
 
--- that of a thread that is there
+-- a thread that isn't made has no step
 abbrev pub rank_in : CastScript → Core → Option Seat → ℕ
 rank_in p k None = 0
 rank_in p k (Some q) = seat_rank p k.words (length k.seats) q.micro q.state
 
--- how many ticks thread t needs at most, alone, until its step
+-- the rank of thread t: where it has a step, that comes within one tick more
 abbrev pub rank : CastScript → Core → ℕ → ℕ
 rank p k t = rank_in p k (slice_get k.seats t)

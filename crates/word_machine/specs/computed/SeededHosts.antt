@@ -21,7 +21,7 @@ abbrev pub host_solo : CastScript → Settings → ℕ → Hosts → ℕ → Hos
 host_solo p s zero k h = k
 host_solo p s (suc n) k h = if host_steps p s k (k.hosts h) then acts p s k h (k.hosts h) else host_solo p s n (acts p s k h (k.hosts h)) h
 
--- how many acts its thread needs at most until its step
+-- the rank of its thread
 abbrev pub host_rank : CastScript → Hosts → Host → ℕ
 host_rank p k (Runs t q) = seat_rank p k.words k.made q.micro q.state
 host_rank p k x = 0
@@ -68,7 +68,7 @@ hosts_from k n (suc count) = if host_runs k (k.hosts n) then n ∷ hosts_from k 
 abbrev pub host_thread : Hosts → ℕ → Option ℕ
 host_thread k seed = slice_get (hosts_from k 0 k.made) (pick seed (length (hosts_from k 0 k.made)))
 
--- n picks by the seeds that follow, or fewer where an end is recorded
+-- n picks by the seeds that follow, or fewer where an end is recorded; the seed becomes the next one before each pick
 abbrev pub host_seeded : CastScript → Settings → ℕ → ℕ → Hosts → Hosts
 host_seeded p s zero seed k = k
 host_seeded p s (suc n) seed k = if is_some (k.words).end then k
