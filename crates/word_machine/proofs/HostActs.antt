@@ -235,7 +235,7 @@ module _ (p : CastScript) (k : Hosts) (c : Core) (st : StandsFor p k c) (h : ℕ
   -- ---- a start word is stored
 
   module _ (s : Settings) (t : ℕ) (q : Seat) (u g : ℕ) (m : Ty) (left : List Val) (x : k.hosts h ≡ Starts t q u g m left) where
-    abbrev pub kn : Knows st.known (length c.seats) h (Starts t q u g m left)
+    abbrev kn : Knows st.known (length c.seats) h (Starts t q u g m left)
     kn = subst (λ y. Knows st.known (length c.seats) h y) x (st.hosts h)
 
     -- the new thread's seat

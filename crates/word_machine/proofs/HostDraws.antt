@@ -20,13 +20,13 @@ use Rattle.word_machine.specs.Hosts as TheHosts
 use Rattle.word_machine.proofs.CoreOk.{CoreOk}
 use Rattle.word_machine.proofs.Begins.{begins_right}
 use Rattle.word_machine.proofs.HostChanges.{changes_ok, length_more, not_same, put_at, put_here, put_other, unlike}
-use Rattle.word_machine.proofs.HostActs.{kn, moved_ok, runs_seat}
+use Rattle.word_machine.proofs.HostActs.{moved_ok, runs_seat}
 
 -- ---- a thread draws another
 
 module _ (p : CastScript) (k : Hosts) (c : Core) (st : StandsFor p k c) (h t : ℕ) (q : Seat) (x : k.hosts h ≡ Runs t q) (g : ℕ) (m : Ty)
     (args : List Val) (new : Seat) (b : Begun p g m args new) where
-  abbrev pub u : ℕ
+  abbrev u : ℕ
   u = length c.seats
 
   abbrev starting : Host
@@ -117,7 +117,7 @@ module _ (p : CastScript) (pok : IsTypedProgram p) (s : Settings) (k : Hosts) (r
   abbrev By : Hosts → Core → Type 0
   By k' c' = StandsFor p k' c'
 
-  pub at : slice_get c.seats t ≡ Some q
+  at : slice_get c.seats t ≡ Some q
   at = (runs_seat p k c st h s t q x).0
 
   same_words : (w : Words) → k.words ≡ w → record k { words = w } ≡ k

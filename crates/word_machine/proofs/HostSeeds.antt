@@ -24,7 +24,7 @@ use Rattle.word_machine.specs.Words.{Words, Answer}
 use Rattle.word_machine.specs.computed.Ranks.{solo, rank}
 use Rattle.word_machine.specs.computed.SeededHosts.{host_steps, host_solo, host_rank, loads_of, arrive, settle_in, alone_in, host_pick}
 use Rattle.word_machine.specs.computed.SeededHosts.{host_runs, hosts_from, host_thread, host_seeded}
-use Rattle.word_machine.specs.computed.SeededTicks.{state_runs, runs_from, word_thread}
+use Rattle.word_machine.specs.computed.SeededTicks.{state_runs, runs_from}
 use Rattle.word_machine.specs.Hosts as TheHosts
 use Rattle.word_machine.specs.StandsFor as TheStanding
 use Rattle.word_machine.specs.Ticks as TheTicks

@@ -24,8 +24,8 @@ use Rattle.word_machine.proofs.CoreOk.{CoreOk}
 use Rattle.word_machine.proofs.Tick.{tick_ok}
 use Rattle.word_machine.proofs.Follow.{Now, ran_tick, now_more, follows, start_core}
 use Rattle.word_machine.proofs.HostChanges.{append_all, append_none, get_behind, length_more, there}
-use Rattle.word_machine.proofs.HostActs.{alone_ok, claim_ok, claimed_seat, header_begun, header_made, kn, load_ok, start_ok}
-use Rattle.word_machine.proofs.HostDraws.{at, ticked_ok, u}
+use Rattle.word_machine.proofs.HostActs.{alone_ok, claim_ok, claimed_seat, header_begun, header_made, load_ok, start_ok}
+use Rattle.word_machine.proofs.HostDraws.{ticked_ok}
 
 -- ---- events
 

@@ -36,7 +36,7 @@ use Rattle.word_machine.specs.Hosts.{after_events, ticks_of, hosts_start}
 use Rattle.word_machine.specs.Rests.{MayRest, RestsRight, NeverRests}
 use Rattle.word_machine.specs.Seats.{Micro, Quick, Seen, Count, Filling, Seeing, Seat, Next, NLocal, NRest, NWants, NBegins, deep, after}
 use Rattle.word_machine.specs.Seats.{moves, halts, turns, filling, put_begun, fresh_seat, next_top, resume_top, next_action, resume}
-use Rattle.word_machine.specs.Ticks.{Core, stands, acted, answered, tick_seat, tick, core_start, after_ticks}
+use Rattle.word_machine.specs.Ticks.{Core, acted, tick_seat, tick, core_start, after_ticks}
 use Rattle.word_machine.specs.TopRows.{lift, TopSays}
 use Rattle.word_machine.specs.Tops.{Top, TLocal, TMiss, TCell, TBlind, TNew, TPrint, TLook, TLeave, TJoin, TBegin, top_of, own}
 use Rattle.word_machine.specs.Words.{Words, Answer, Kept, Full, Word, Differs, Counts, Drawn, Ends, Result, apply}

@@ -8,7 +8,7 @@ use Rattle.mono_tree.specs.TypedPrograms.{IsTypedProgram}
 use Rattle.cast_machine.specs.HeapTyping.{IsAsPrecise, IsFunctionOf, Extends}
 use Rattle.cast_machine.specs.declared.data.Settings.{Settings}
 use Rattle.word_machine.specs.Follows.{Follows, OnlyOf, picks_of}
-use Rattle.word_machine.specs.Hosts.{Header, HEmpty, hosts_start, Host, main_seat, loads, Starts, ticks_of, after_events, event_ticks}
+use Rattle.word_machine.specs.Hosts.{Header, HEmpty, hosts_start, Host, main_seat, Starts, ticks_of, after_events, event_ticks}
 use Rattle.word_machine.specs.Hosts.{HClaimed, HFunc, Acts, Loads, Event, arity, happens, Claims, Runs, Refused, Idle, Hosts}
 use Rattle.word_machine.specs.Seats.{Seat, fresh_seat}
 use Rattle.word_machine.specs.Ticks.{Core, core_start, after_ticks}

@@ -14,7 +14,6 @@ use Rattle.word_machine.specs.Ticks.{Core, tick, tick_steps}
 use Rattle.word_machine.specs.Tops.{Top, TCell, TNew, TPrint, TLeave, TJoin, TBegin, top_of}
 use Rattle.word_machine.specs.Words.{Words, same_cell}
 use Rattle.cast_machine.specs.declared.data.State.TheVariants as state
-use Rattle.cast_machine.specs.declared.data.Work.TheVariants as work
 
 -- thread t ticks until a tick is the step, at most n times
 abbrev pub solo : CastScript → Settings → ℕ → Core → ℕ → Core
