@@ -113,7 +113,7 @@ module _ (p : CastScript) (pok : IsTypedProgram p) (s : Settings) (rs : List Ty)
 
   module _ (a : Option Ty) (f : Frame) (below : List Frame) (n : ℕ) (item : Work) (is : List Work) (top : f.work ≡ item ∷ is)
       (i : IsWellTypedState p rs t h (typ a) (state.Running f below)) (sh : deep (state.Running f below) ≡ false) where
-    abbrev pub q : Micro → Seat
+    abbrev q : Micro → Seat
     q m = record { asked = a; state = state.Running f below; steps = n; micro = m }
 
     abbrev g0 : Frame

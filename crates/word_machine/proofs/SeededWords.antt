@@ -38,7 +38,7 @@ use Rattle.word_machine.proofs.CoreOk.{threads_get, CoreOk}
 use Rattle.word_machine.proofs.Leaf.{there, typ, stepped, shown_row, fin_out}
 use Rattle.word_machine.proofs.Follow.{start_core}
 use Rattle.word_machine.proofs.Lively.{AllLively, main_lively}
-use Rattle.word_machine.proofs.Nearer.{no_step, q}
+use Rattle.word_machine.proofs.Nearer.{no_step}
 use Rattle.word_machine.proofs.Picks.{pick_to, solo_ok}
 
 -- ---- the order of a seed
