@@ -1,7 +1,8 @@
 #!/usr/bin/env bash
 # How long the program takes to close as many types as a script may have, and to refuse more: `mono check` on six groups of classes that
 # close to 4,095 types, on the same with one class more, on one group of 12 classes, and on the six groups with 64 fields in each class.
-# Prints the seconds of each, which are to be under one, and under five for 64 fields; else the status is 1.
+# Prints the seconds of each. To close them is to take under one, and to make their table another: so under two where they are accepted, under
+# one where they are refused, and under five for 64 fields; else the status is 1.
 #
 #     bench/close_types.sh
 #
@@ -23,9 +24,10 @@ groups() {
 }
 
 built
-limit=1000    # milliseconds
+limit=2000    # milliseconds
 groups 0 11 10 9 8 7 7 >"$work/script.py"
 timed check "4,095 types" 0 ""
+limit=1000
 printf 'class One:\n    more: int\n' >>"$work/script.py"
 timed check "one type more" 1 "refused 1:1: too many types"
 groups 0 12 >"$work/script.py"

@@ -10,6 +10,6 @@ mod types;
 
 pub use copies::{copy_lines, copy_object, copy_threads, copy_val, share_otherwise};
 pub use heap::{Heap, size};
-pub use operators::{counted, negated, operate};
+pub use operators::{negated, operate};
 pub use outcomes::{blames, fails, goes, push_leaving, puts};
 pub use types::{is_dyn, is_fully_static, is_precise, is_same, meet, members_of};

@@ -1,8 +1,9 @@
--- A script has its casts in one way over one list of types.
-use Rattle.std.proofs.Common.{◌≡◌, List, [], ◌∷◌, ◌++◌, length, refl, sym, ◌∙◌, ap, subst}
+-- A script has its casts in one way over one list of types, and as many over any.
+use Rattle.std.proofs.Common.{◌≡◌, suc, List, [], ◌∷◌, ◌++◌, length, refl, sym, ◌∙◌, ap, subst}
 use Rattle.mono_syntax.specs.declared.cast.CastClass.{CastClass}
 use Rattle.mono_syntax.specs.declared.cast.CastFunction.{CastFunction}
 use Rattle.mono_syntax.specs.declared.cast.CastScript.{CastScript}
+use Rattle.mono_syntax.specs.declared.leaf.Site.{Site}
 use Rattle.mono_syntax.specs.declared.script.Scoped.{Scoped}
 use Rattle.mono_syntax.specs.declared.tree.ClassDef.{ClassDef}
 use Rattle.mono_syntax.specs.declared.tree.FuncDef.{FuncDef}
@@ -19,6 +20,7 @@ use Rattle.script_rules.specs.Scoping.{class_list}
 use Rattle.script_rules.specs.SourceCasts.{BecomeClasses}
 use Rattle.script_rules.specs.Writes.{in_order}
 use Rattle.static_types.specs.Names.{Names}
+use Rattle.static_types.specs.Scripts.{IsMainScope}
 use Rattle.static_types.proofs.ScriptLaws.{main_scope_once, function_scope_once, result_once}
 use Rattle.static_types.proofs.Writing.{one_declared, function_type_once}
 use Rattle.cast_rules.specs.declared.site.TypedSite.{TypedSite}
@@ -169,3 +171,33 @@ script_once d p q h i same =
       main = record { names = values j; threads = threads j; body = body j };
       sites = sites j;
     }
+
+-- ---- how many there are
+
+as_many_sites : (types : List Ty) (fs : List TypedSite) (xs : List Site) → AreSites types fs xs → length fs ≡ length xs
+as_many_sites types [] [] h = refl
+as_many_sites types [] (x ∷ xs) h = absurd h
+as_many_sites types (f ∷ fs) [] h = absurd h
+as_many_sites types (f ∷ fs) (x ∷ xs) h = ap suc (as_many_sites types fs xs h.1)
+
+-- the sites of two scripts with casts of one source
+whole_once : (d e : Scoped) (p q : CastScript) → d.script ≡ e.script → (h : HasCasts d p) (i : HasCasts e q)
+    → left (items p.functions (cast_block p.main.body)) h.behind h.all ≡ left (items q.functions (cast_block q.main.body)) i.behind i.all
+whole_once d e p q same h i =
+    let scope = subst (λ (s : Script). IsMainScope s i.names) (sym same) i.scope in
+    let names = main_scope_once d.script h.names i.names h.scope scope in
+    let own = subst (λ (s : Script). ElaborateItems i.names [] s.items q.functions (cast_block q.main.body) i.behind i.all) (sym same) i.items in
+    let moved = subst (λ (z : Names). ElaborateItems z [] d.script.items q.functions (cast_block q.main.body) i.behind i.all) (sym names) own in
+    items_once h.names h.behind i.behind [] h.all i.all d.script.items p.functions q.functions (cast_block p.main.body) (cast_block q.main.body) h.items moved
+
+pub counts_once : (d e : Scoped) (p q : CastScript) → d.script ≡ e.script → HasCasts d p → HasCasts e q
+    → (length p.functions ≡ length q.functions) × (length p.classes ≡ length q.classes) × (length p.sites ≡ length q.sites)
+counts_once d e p q same h i =
+    let whole = whole_once d e p q same h i in
+    let become = subst (λ (s : Script). BecomeClasses s (class_list s) q.classes) (sym same) i.classes in
+    let classes = classes_once d.script (class_list d.script) p.classes q.classes h.classes become in
+    let sites : length h.all ≡ length i.all = λ j. length (whole j).sites in (
+      λ j. length (whole j).form.functions,
+      ap length classes,
+      sym (as_many_sites p.types h.all p.sites h.sites) ∙ sites ∙ as_many_sites q.types i.all q.sites i.sites,
+    )

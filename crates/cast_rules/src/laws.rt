@@ -1,5 +1,5 @@
 //! What holds of the rules themselves.
-ghost use Rattle.std.specs.Prelude.{◌≡◌, ℕ, List, [], Some, Contains, slice_get};
+ghost use Rattle.std.specs.Prelude.{◌≡◌, ℕ, List, [], Some, Contains, length, slice_get};
 ghost use Rattle.mono_syntax.specs.declared.cast.CastScript.{CastScript};
 ghost use Rattle.mono_syntax.specs.declared.cast.NamedType.{NamedType};
 ghost use Rattle.mono_syntax.specs.declared.leaf.Kind.TheVariants as kind;
@@ -26,6 +26,12 @@ ghost use Rattle.cast_rules.specs.TypingReasons.{IsTypingReason};
 /// The rules leave one thing open, the order of the list of types: a script with casts over a given list is the only one.
 pub fn one_result()
     ensures { (d : Scoped) (p q : CastScript) → HasCasts d p → HasCasts d q → p.types ≡ q.types → p ≡ q }
+{}
+
+/// Whatever the order of that list, a script has as many functions, classes and sites.
+pub fn one_count()
+    ensures { (d e : Scoped) (p q : CastScript) → d.script ≡ e.script → HasCasts d p → HasCasts e q
+        → (length p.functions ≡ length q.functions) × (length p.classes ≡ length q.classes) × (length p.sites ≡ length q.sites) }
 {}
 
 /// A script that has its casts has its types.

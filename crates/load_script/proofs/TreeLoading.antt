@@ -1,4 +1,4 @@
--- What a tree comes to, by what the next phase makes of its names, its types and its closed types.
+-- What a tree comes to, by what the next phase makes of its names, its types and its casts.
 use Rattle.std.proofs.Common.{◌≡◌, ◌∙◌, inl, inr, Result, Ok, Err, IfOk, IfErr, refl, ap, sym, subst}
 use Rattle.std.specs.Prelude.{IsOkUnless}
 use Rattle.mono_syntax.specs.declared.cast.CastScript.{CastScript}
@@ -13,9 +13,9 @@ use Rattle.script_rules.specs.ScopeFaults.{IsRight, IsScopeRefusal}
 use Rattle.script_rules.specs.Scoping.{IsScope}
 use Rattle.static_types.specs.Scripts.{IsTypeFault}
 use Rattle.cast_rules.specs.HasCasts.{HasCasts}
-use Rattle.type_shapes.specs.Limits.{IsWithinLimits}
 use Rattle.load_script.specs.declared.accepted.Accepted.{Accepted}
-use Rattle.load_script.specs.TreePhases.{IsClosedListOf, RefusesTypes, IsTreeProgram, RefusesTree, misnamed, mistyped, unclosed}
+use Rattle.load_script.specs.TreePhases.{RefusesCasts, IsNumbered, IsTreeProgram, RefusesTree, misnamed, mistyped, with_casts}
+use Rattle.load_script.proofs.Numbering.{own_tree, same_refusal}
 
 -- what holds of a script holds of the one that its scope keeps
 pub kept : (P : Script → Type 0) (s : Script) (d : Scoped) → IsScope s d → P s → P d.script
@@ -34,38 +34,29 @@ no_program f = Err f
 
 -- ---- where the expressions have their types
 
--- the accepted script is this one, and its types are closed
-abbrev IsClosed : CastScript → Accepted → Type 0
-IsClosed q p = (p.script ≡ q) × IsClosedListOf q.scoped.script p.closed.keys × IsWithinLimits p.closed.keys
-
-own_tree : (d : Scoped) (q : CastScript) → HasCasts d q → q.scoped.script ≡ d.script
-own_tree d q casts = ap (λ (x : Scoped). x.script) casts.scoped
-
-pub closed_program : (d : Scoped) → IsRight d.script → IsScope d.script d → (q : CastScript) → HasCasts d q → (r : Result Accepted LoadFault)
-    → IfOk r (IsClosed q) → IfOk r (IsTreeProgram d.script)
-closed_program d right is q casts (Ok p) h = record {
+pub numbered_program : (d : Scoped) → IsRight d.script → IsScope d.script d → (q : CastScript) → HasCasts d q → (r : Result Accepted LoadFault)
+    → IfOk r (λ a. a.script ≡ q) → IfOk r (IsNumbered q.scoped.script) → IfOk r (IsTreeProgram d.script)
+numbered_program d right is q casts (Ok p) same h = record {
   right = right;
   scoped = d;
   scope = is;
-  casts = subst (λ (x : CastScript). HasCasts d x) (sym h.0) casts;
-  closed = subst (λ (s : Script). IsClosedListOf s p.closed.keys) (own_tree d q casts) h.1;
-  within = h.2;
+  casts = subst (λ (x : CastScript). HasCasts d x) (sym same) casts;
+  numbered = subst (λ (s : Script). IsNumbered s p) (own_tree d q casts) h;
 }
-closed_program d right is q casts (Err f) h = tt
+numbered_program d right is q casts (Err f) same h = tt
 
-pub closed_fault : (d : Scoped) → IsRight d.script → (q : CastScript) → HasCasts d q → ((f : Refusal) → IsTypeFault d.script f → ⊥)
-    → (r : Result Accepted LoadFault) → IfErr r (IsFault (RefusesTypes q.scoped.script)) → IfErr r (IsFault (RefusesTree d.script))
-closed_fault d right q casts none (Ok p) h = tt
-closed_fault d right q casts none (Err (Refused f)) h =
-    unclosed right none (subst (λ (s : Script). RefusesTypes s f) (own_tree d q casts) h)
-closed_fault d right q casts none (Err Memory) h = tt
+pub numbered_fault : (d : Scoped) → IsRight d.script → IsScope d.script d → (q : CastScript) → HasCasts d q → ((f : Refusal) → IsTypeFault d.script f → ⊥)
+    → (r : Result Accepted LoadFault) → IfErr r (IsFault (RefusesCasts q)) → IfErr r (IsFault (RefusesTree d.script))
+numbered_fault d right is q casts none (Ok p) h = tt
+numbered_fault d right is q casts none (Err (Refused f)) h = with_casts right none is casts h
+numbered_fault d right is q casts none (Err Memory) h = tt
 
-pub closed_refuses : (d : Scoped) → IsRight d.script → (q : CastScript) → HasCasts d q → ((f : Refusal) → IsTypeFault d.script f → ⊥)
-    → (r : Result Accepted LoadFault) → ((f : Refusal) → RefusesTypes q.scoped.script f → Refuses r f)
+pub numbered_refuses : (d : Scoped) → IsRight d.script → (q : CastScript) → HasCasts d q → ((f : Refusal) → IsTypeFault d.script f → ⊥)
+    → (r : Result Accepted LoadFault) → ((f : Refusal) → RefusesCasts q f → Refuses r f)
     → (f : Refusal) → RefusesTree d.script f → Refuses r f
-closed_refuses d right q casts none r h f (misnamed g) = absurd (right_only d.script f right g)
-closed_refuses d right q casts none r h f (mistyped k g) = absurd (none f g)
-closed_refuses d right q casts none r h f (unclosed k n g) = h f (subst (λ (s : Script). RefusesTypes s f) (sym (own_tree d q casts)) g)
+numbered_refuses d right q casts none r h f (misnamed g) = absurd (right_only d.script f right g)
+numbered_refuses d right q casts none r h f (mistyped k g) = absurd (none f g)
+numbered_refuses d right q casts none r h f (with_casts {d = e} {p = p} k n i c g) = h f (same_refusal e d p q i.script c casts f g)
 
 -- ---- where a type is at fault
 
@@ -77,8 +68,8 @@ pub typed_refuses : (s : Script) → IsRight s → (f : LoadFault) → IsFault (
     → ((q : Refusal) → IsTypeFault s q → Refuses (no_program f) q) → (q : Refusal) → RefusesTree s q → Refuses (no_program f) q
 typed_refuses s right f h refuses q (misnamed g) = absurd (right_only s q right g)
 typed_refuses s right f h refuses q (mistyped k g) = refuses q g
-typed_refuses s right (Refused r) h refuses q (unclosed k n g) = absurd (n r h)
-typed_refuses s right Memory h refuses q (unclosed k n g) = inr refl
+typed_refuses s right (Refused r) h refuses q (with_casts k n i c g) = absurd (n r h)
+typed_refuses s right Memory h refuses q (with_casts k n i c g) = inr refl
 
 -- ---- where the names are wrong
 
@@ -93,7 +84,7 @@ pub named_refuses : (s : Script) (f : LoadFault) → (IsRight s → IsOkUnless (
     → ((q : Refusal) → IsScopeRefusal s q → Refuses (no_scope f) q) → (q : Refusal) → RefusesTree s q → Refuses (no_program f) q
 named_refuses s f accepts refuses q (misnamed g) = refuses q g
 named_refuses s f accepts refuses q (mistyped k g) = inr (accepts k)
-named_refuses s f accepts refuses q (unclosed k n g) = inr (accepts k)
+named_refuses s f accepts refuses q (with_casts k n i c g) = inr (accepts k)
 
 -- ---- what is said of the scope's own script is said of the tree
 

@@ -10,13 +10,17 @@ ghost use Rattle.script_rules.specs.WellTyped.{IsWellTypedProgram};
 ghost use Rattle.script_shape.specs.Shapes.{IsShaped};
 ghost use Rattle.static_types.specs.Scripts.{IsTypeFault};
 ghost use Rattle.cast_rules.specs.HasCasts.{HasCasts};
+ghost use Rattle.written_types.specs.ScriptTypes.{AreScriptTypes};
+ghost use Rattle.mono_syntax.specs.declared.tree.Script.{Script};
 ghost use Rattle.type_shapes.specs.Limits.{IsWithinLimits};
-ghost use Rattle.load_script.specs.TreePhases.{IsClosedListOf, RefusesTypes, IsTreeProgram, RefusesTree};
+ghost use Rattle.load_script.specs.TreePhases.{IsClosedListOf, RefusesTypes, RefusesCasts, IsNumbered, IsTreeProgram, RefusesTree};
 ghost use Rattle.load_script.specs.Phases.{IsTokensProgram, RefusesTokens, IsTextProgram, RefusesText, IsProgramOf, IsFirstRefusal};
 
 use crate::accepted::Accepted;
+use crate::numbers::number_closed;
 use cast_insert::{insert, script_types};
 use consistency::check;
+use indexmap::IndexSet;
 use meet_closure::close;
 use mono_list::Shared;
 use mono_syntax::{CastScript, LoadFault, Scoped, Script, Ty};
@@ -55,22 +59,67 @@ fn own_types(alloc: Global, types: &[Shared<Ty>]) -> Result<Items<Ty>, AllocErro
     Ok(own)
 }
 
-/// A script with its casts: its types are closed.
-fn close_types(alloc: Global, script: CastScript) -> Result<Accepted, LoadFault>
-    requires { IsWellTypedProgram script }
-    ensures accepted { IfOk result (λ p. (p.script ≡ script) × IsClosedListOf script.scoped.script p.closed.keys × IsWithinLimits p.closed.keys) }
-    ensures refused { IfErr result (IsFault (RefusesTypes script.scoped.script)) }
-    ensures refuses { (r : Refusal) → RefusesTypes script.scoped.script r → Refuses result r }
+/// The closed list of the types that a script writes, or the refusal of it.
+fn close_written(alloc: Global, written: &[Ty]) -> Result<IndexSet<Ty>, LoadFault>
+    ensures accepted { (s : Script) → AreScriptTypes s written.now → IfOk result (λ l. IsClosedListOf s l.keys × IsWithinLimits l.keys) }
+    ensures refused { (s : Script) → AreScriptTypes s written.now → IfErr result (IsFault (RefusesTypes s)) }
+    ensures refuses { (s : Script) → AreScriptTypes s written.now → (r : Refusal) → RefusesTypes s r → Refuses result r }
 {
-    let shared = script_types(alloc, &script)?;
-    let written = own_types(alloc, shared.as_slice())?;
-    match close(alloc, written.as_slice()) {
-        Ok(closed) => Ok(Accepted { script, closed }),
+    match close(alloc, written) {
+        Ok(closed) => Ok(closed),
         Err(fault) => Err(fault),
     }
 }
 
-/// A script whose names are right, up to its closed types.
+/// The closed list of the types that a script with its casts writes.
+fn closed_types(alloc: Global, script: &CastScript) -> Result<IndexSet<Ty>, LoadFault>
+    requires { IsWellTypedProgram script.now }
+    ensures accepted { IfOk result (λ l. IsClosedListOf script.now.scoped.script l.keys × IsWithinLimits l.keys) }
+    ensures refused { IfErr result (IsFault (RefusesTypes script.now.scoped.script)) }
+    ensures refuses { (r : Refusal) → RefusesTypes script.now.scoped.script r → Refuses result r }
+{
+    let shared = script_types(alloc, script)?;
+    let written = own_types(alloc, shared.as_slice())?;
+    close_written(alloc, written.as_slice())
+}
+
+/// A script with its casts whose types are closed: it gets its numbers.
+fn with_numbers(
+    alloc: Global,
+    script: CastScript,
+    closed: IndexSet<Ty>,
+) -> Result<Accepted, LoadFault>
+    requires well_typed { IsWellTypedProgram script }
+    requires casts { HasCasts script.scoped script }
+    requires closed { IsClosedListOf script.scoped.script closed.keys }
+    requires within { IsWithinLimits closed.keys }
+    ensures script { IfOk result (λ a. a.script ≡ script) }
+    ensures accepted { IfOk result (IsNumbered script.scoped.script) }
+    ensures refused { IfErr result (IsFault (RefusesCasts script)) }
+    ensures refuses { (r : Refusal) → RefusesCasts script r → Refuses result r }
+{
+    match number_closed(alloc, &script, closed) {
+        Ok(program) => Ok(Accepted { script, program }),
+        Err(fault) => Err(fault),
+    }
+}
+
+/// A script with its casts: its types are closed, and then it gets its numbers.
+fn number_script(alloc: Global, script: CastScript) -> Result<Accepted, LoadFault>
+    requires well_typed { IsWellTypedProgram script }
+    requires casts { HasCasts script.scoped script }
+    ensures script { IfOk result (λ a. a.script ≡ script) }
+    ensures accepted { IfOk result (IsNumbered script.scoped.script) }
+    ensures refused { IfErr result (IsFault (RefusesCasts script)) }
+    ensures refuses { (r : Refusal) → RefusesCasts script r → Refuses result r }
+{
+    match closed_types(alloc, &script) {
+        Ok(closed) => with_numbers(alloc, script, closed),
+        Err(fault) => Err(fault),
+    }
+}
+
+/// A script whose names are right, up to its numbers.
 fn load_scoped(alloc: Global, scoped: Scoped) -> Result<Accepted, LoadFault>
     requires shape { IsShaped scoped.script }
     requires right { IsRight scoped.script }
@@ -81,7 +130,7 @@ fn load_scoped(alloc: Global, scoped: Scoped) -> Result<Accepted, LoadFault>
     ensures well_typed { IfOk result (λ p. IsWellTypedProgram p.script) }
 {
     match load_typed(alloc, scoped) {
-        Ok(script) => close_types(alloc, script),
+        Ok(script) => number_script(alloc, script),
         Err(fault) => Err(fault),
     }
 }
@@ -128,7 +177,7 @@ fn load_text(alloc: Global, text: &str) -> Result<Accepted, LoadFault>
 }
 
 /// The accepted script of some bytes, or the first refusal: the bytes are decoded, cut into tokens and read as a tree; its names and sizes
-/// and its types are looked at; it gets its casts, and its types are closed.
+/// and its types are looked at; it gets its casts, its types are closed, and it gets its numbers.
 pub fn load(alloc: Global, bytes: &[u8]) -> Result<Accepted, LoadFault>
     requires { length bytes.now ≤ most_bytes }
     ensures accepted { IfOk result (IsProgramOf bytes.now) }

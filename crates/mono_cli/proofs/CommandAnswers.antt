@@ -7,7 +7,7 @@ use Rattle.mono_io.specs.Faults.{Rose, IsTold, IsTooLong}
 use Rattle.cast_machine.specs.declared.data.End.{End}
 use Rattle.cast_machine.specs.declared.data.End.TheVariants as ends
 use Rattle.cast_machine.specs.declared.data.Settings.{Settings}
-use Rattle.mono_cli.specs.Ends.{status_of_end}
+use Rattle.run_report.specs.Ends.{status_of}
 use Rattle.mono_list.proofs.Cases.{some_is}
 use Rattle.mono_cli.specs.Answer.{Answer, refused, listed, passed, casts_listed, types_listed, head_text, headed, usage, unfetched}
 use Rattle.stress_gen.specs.StressText.{stress_text}
@@ -21,8 +21,8 @@ use Rattle.command_words.specs.CommandLine.{IsCommandLine, IsNumber, IsSame, IsU
 use Rattle.command_words.specs.declared.command.Command.{Command}
 use Rattle.command_words.specs.declared.command.Command.TheVariants as command
 use Rattle.command_words.proofs.OneCommand.{one_command}
-use Rattle.mono_cli.specs.Showing.{Shows}
-use Rattle.mono_cli.proofs.Shown.{shows_also, shows_whole}
+use Rattle.mono_cli.specs.Putting.{Stream, PutsAnswer}
+use Rattle.mono_cli.proofs.PutAnswers.{answers_also, answers_whole}
 use Rattle.mono_cli.proofs.TextAnswers.{long_answers}
 
 more_zeros : (n : ℕ) → (bytes : List ℕ) × (n < length bytes)
@@ -37,7 +37,7 @@ longer (Some bytes) n h = (bytes, refl, h)
 pub long_told : (v : Verb) (told : Option (List ℕ)) → IsTooLong told most_bytes → (a : Answer) → a ≡ refused too_long → AnswersTold v told a
 long_told v told h a e = let some = longer told most_bytes h in record { bytes = some.0; are_told = some.1; answers = long_answers v some.0 some.2 a e }
 
-ended_most : (e : End) → status_of_end e ≤ 6
+ended_most : (e : End) → status_of e ≤ 6
 ended_most ends.Done = omega arith
 ended_most (ends.Blame k) = omega arith
 ended_most (ends.ZeroDivision k) = omega arith
@@ -56,7 +56,7 @@ accepted_most : (v : Verb) (p : Accepted) (a : Answer) → IsAccepted v p a → 
 accepted_most verb.Check p a h = status_along a passed h (omega arith)
 accepted_most verb.Show p a h = status_along a (listed p.script.scoped.script) h.says (omega arith)
 accepted_most verb.Casts p a h = status_along a (casts_listed p.script h.rows) h.says (omega arith)
-accepted_most verb.Types p a h = status_along a (types_listed p.closed.keys) h (omega arith)
+accepted_most verb.Types p a h = status_along a (types_listed ((p.program).table).types) h (omega arith)
 accepted_most (verb.Stress s seed n) p a h =
     status_along a (headed (head_text n) h.inner) h.says (status_along h.inner _ (h.is).says (ended_most (h.is).end))
 accepted_most (verb.Step s seed) p a h = status_along a _ h.says (ended_most h.end)
@@ -84,12 +84,12 @@ answer_most words told s t a (inl (c, is, h)) = command_most c told s t a h
 answer_most words told s t a (inr h) = status_along a usage h.1 (omega arith)
 
 -- the refusal of too many bytes is shown in answer to a command that names a file
-pub shows_long : (v : Verb) (file : List ℕ) (told : List ℕ → Option (List ℕ)) (s t : ℕ) → IsTooLong (told file) most_bytes →
-    (out out' : Option (List ℕ)) (o o' : ℕ) (err err' : Option (List ℕ)) (e e' status : ℕ) →
-    Shows (λ a. a ≡ refused too_long) out out' o o' err err' e e' status →
-    Shows (λ a. AnswersFile v file told s t a) out out' o o' err err' e e' status
-shows_long v file told s t h out out' o o' err err' e e' status shown =
-    shows_also (λ a. a ≡ refused too_long) (λ a. AnswersFile v file told s t a) (λ a i. inl (long_told v (told file) h a i)) out out' o o' err err' e e' status shown
+pub answers_long : (v : Verb) (file : List ℕ) (told : List ℕ → Option (List ℕ)) (s t : ℕ) → IsTooLong (told file) most_bytes →
+    (out err : Stream) (status : ℕ) →
+    PutsAnswer (λ a. a ≡ refused too_long) out err status →
+    PutsAnswer (λ a. AnswersFile v file told s t a) out err status
+answers_long v file told s t h out err status shown =
+    answers_also (λ a. a ≡ refused too_long) (λ a. AnswersFile v file told s t a) (λ a i. inl (long_told v (told file) h a i)) out err status shown
 
 fueled : (options : List (List ℕ × List ℕ)) (s : Settings) → IsNumber (codes "fuel") 1 (2 ^ 40) 10000000 options s.fuel → (1 ≤ s.fuel) × (s.fuel ≤ 2 ^ 40)
 fueled options s (inl h) = (h.0, h.1)
@@ -149,16 +149,16 @@ told_refuses : (told : List ℕ → Option (List ℕ)) (s t : ℕ) → (Rose s t
 told_refuses told s t n v file text is a (inl h) = λ r f. (told_text v told file text is a h).refuses r f
 told_refuses told s t n v file text is a (inr h) = absurd (n h.0)
 
-pub shows_refusal : (words : List (List ℕ)) (told : List ℕ → Option (List ℕ)) (s t : ℕ) (out out' : Option (List ℕ)) (o o' : ℕ) (err err' : Option (List ℕ)) (e e' status : ℕ) →
-    Shows (λ a. IsAnswer words told s t a) out out' o o' err err' e e' status →
+pub answers_refusal : (words : List (List ℕ)) (told : List ℕ → Option (List ℕ)) (s t : ℕ) (out err : Stream) (status : ℕ) →
+    PutsAnswer (λ a. IsAnswer words told s t a) out err status →
     (c : Command) (file text : List ℕ) (r : Refusal) → IsCommandLine words c → file_of c ≡ Some file → told file ≡ Some text → (Rose s t → ⊥) → IsFirstRefusal text r →
-    Shows (λ a. a ≡ refused r) out out' o o' err err' e e' status
-shows_refusal words told s t out out' o o' err err' e e' status shown c file text r asked named is n f =
-    shows_also (λ a. IsAnswer words told s t a) (λ a. a ≡ refused r)
+    PutsAnswer (λ a. a ≡ refused r) out err status
+answers_refusal words told s t out err status shown c file text r asked named is n f =
+    answers_also (λ a. IsAnswer words told s t a) (λ a. a ≡ refused r)
     (λ a h. of_words (λ x b. (q : Refusal) → IsFirstRefusal x q → b ≡ refused q) words told s t (told_refuses told s t n) c file text asked named is a h r f)
-    out out' o o' err err' e e' status shown
+    out err status shown
 
-ended_other : (e : End) → status_of_end e ≡ 1 → ⊥
+ended_other : (e : End) → status_of e ≡ 1 → ⊥
 ended_other ends.Done h = absurd (omega (arith, h))
 ended_other (ends.Blame k) h = absurd (omega (arith, h))
 ended_other (ends.ZeroDivision k) h = absurd (omega (arith, h))
@@ -190,30 +190,30 @@ told_refused told s t v file text is a (inr h) = λ one.
     absurd (omega (arith, six))
 
 -- a status of 1 comes only where there is a refusal
-pub shows_one : (words : List (List ℕ)) (told : List ℕ → Option (List ℕ)) (s t : ℕ) (out out' : Option (List ℕ)) (o o' : ℕ) (err err' : Option (List ℕ)) (e e' status : ℕ) →
-    Shows (λ a. IsAnswer words told s t a) out out' o o' err err' e e' status →
+pub answers_one : (words : List (List ℕ)) (told : List ℕ → Option (List ℕ)) (s t : ℕ) (out err : Stream) (status : ℕ) →
+    PutsAnswer (λ a. IsAnswer words told s t a) out err status →
     (c : Command) (file text : List ℕ) → IsCommandLine words c → file_of c ≡ Some file → told file ≡ Some text → status ≡ 1 → (r : Refusal) × IsFirstRefusal text r
-shows_one words told s t out out' o o' err err' e e' status shown c file text asked named is one =
-    let all = shows_whole (λ a. IsAnswer words told s t a) out out' o o' err err' e e' status shown (omega (arith, one)) in
+answers_one words told s t out err status shown c file text asked named is one =
+    let all = answers_whole (λ a. IsAnswer words told s t a) out err status shown (omega (arith, one)) in
     of_words (λ x b. b.status ≡ 1 → (r : Refusal) × IsFirstRefusal x r) words told s t (told_refused told s t) c file text asked named is all.answer all.is
     (sym all.status_is ∙ one)
 
 -- the refusal of a made script that is too long
-pub long_made : (v : Verb) (text : List ℕ) → most_bytes < length text → (out out' : Option (List ℕ)) (o o' : ℕ) (err err' : Option (List ℕ)) (e e' status : ℕ) →
-    Shows (λ a. a ≡ refused too_long) out out' o o' err err' e e' status → Shows (λ a. AnswersText v text a) out out' o o' err err' e e' status
-long_made v text l out out' o o' err err' e e' status shown =
-    shows_also (λ a. a ≡ refused too_long) (λ a. AnswersText v text a) (λ a i. long_answers v text l a i) out out' o o' err err' e e' status shown
+pub long_made : (v : Verb) (text : List ℕ) → most_bytes < length text → (out err : Stream) (status : ℕ) →
+    PutsAnswer (λ a. a ≡ refused too_long) out err status → PutsAnswer (λ a. AnswersText v text a) out err status
+long_made v text l out err status shown =
+    answers_also (λ a. a ≡ refused too_long) (λ a. AnswersText v text a) (λ a i. long_answers v text l a i) out err status shown
 
 -- an answer to a text is one to the same text
-pub made_is : (v : Verb) (text made : List ℕ) → text ≡ made → (out out' : Option (List ℕ)) (o o' : ℕ) (err err' : Option (List ℕ)) (e e' status : ℕ) →
-    Shows (λ a. AnswersText v text a) out out' o o' err err' e e' status → Shows (λ a. AnswersText v made a) out out' o o' err err' e e' status
-made_is v text made is out out' o o' err err' e e' status shown =
-    shows_also (λ a. AnswersText v text a) (λ a. AnswersText v made a) (λ a h. subst (λ (t : List ℕ). AnswersText v t a) is h) out out' o o' err err' e e' status shown
+pub made_is : (v : Verb) (text made : List ℕ) → text ≡ made → (out err : Stream) (status : ℕ) →
+    PutsAnswer (λ a. AnswersText v text a) out err status → PutsAnswer (λ a. AnswersText v made a) out err status
+made_is v text made is out err status shown =
+    answers_also (λ a. AnswersText v text a) (λ a. AnswersText v made a) (λ a h. subst (λ (t : List ℕ). AnswersText v t a) is h) out err status shown
 
 -- the answer to the script that `stress` makes is one to the command
 pub stress_answers : (c : Command) (r : Settings) (n k : ℕ) → c ≡ command.Stress r n k → (told : List ℕ → Option (List ℕ)) (s t : ℕ) →
-    (out out' : Option (List ℕ)) (o o' : ℕ) (err err' : Option (List ℕ)) (e e' status : ℕ) →
-    Shows (λ a. AnswersText (verb.Stress r n k) (stress_text k) a) out out' o o' err err' e e' status →
-    Shows (λ a. AnswersCommand c told s t a) out out' o o' err err' e e' status
-stress_answers c r n k is told s t out out' o o' err err' e e' status shown =
-    subst (λ (x : Command). Shows (λ a. AnswersCommand x told s t a) out out' o o' err err' e e' status) (sym is) shown
+    (out err : Stream) (status : ℕ) →
+    PutsAnswer (λ a. AnswersText (verb.Stress r n k) (stress_text k) a) out err status →
+    PutsAnswer (λ a. AnswersCommand c told s t a) out err status
+stress_answers c r n k is told s t out err status shown =
+    subst (λ (x : Command). PutsAnswer (λ a. AnswersCommand x told s t a) out err status) (sym is) shown

@@ -1,8 +1,8 @@
 pub mod Lines
-pub mod Shown
+pub mod PutAnswers
 pub mod TextAnswers
 pub mod CommandAnswers
 pub mod Running
 pub mod ProgramTree
 pub mod EachLine
-pub mod EndLines
+pub mod TopClauses

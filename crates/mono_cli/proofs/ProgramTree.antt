@@ -1,4 +1,4 @@
--- The tree of a program is one that the grammar gives for its bytes.
+-- The tree of a program is one that the grammar gives for its bytes, and its sites have their numbers.
 use Rattle.std.proofs.Common.{◌≡◌, ◌∙◌, List, ℕ, ap, sym, subst}
 use Rattle.load_script.specs.declared.accepted.Accepted.{Accepted}
 use Rattle.mono_syntax.specs.declared.tree.Script.{Script}
@@ -16,3 +16,9 @@ program_grammatical bytes p i =
       source = bytes;
       has_tree = subst Has (sym same) (record { is_text = i.is_text; tokens = text.tokens; lexes = text.lexes; derives = tokens.tree });
     }
+
+pub program_sites : (bytes : List ℕ) (p : Accepted) → IsProgramOf bytes p → (p.program).sites ≡ p.script.sites
+program_sites bytes p i =
+    let tokens = (i.program).program in
+    let tree = tokens.program in
+    ((tree.numbered).same).sites

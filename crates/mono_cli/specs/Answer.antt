@@ -1,5 +1,5 @@
 -- The answers of a command.
-use Rattle.std.specs.Prelude.{ℕ, ◌+◌, ◌*◌, List, [], ◌∷◌, ◌++◌, codes, decimal}
+use Rattle.std.specs.Prelude.{ℕ, ◌+◌, ◌*◌, List, [], ◌∷◌, ◌++◌, Option, None, Some, codes, decimal}
 use Rattle.mono_syntax.specs.declared.cast.CastScript.{CastScript}
 use Rattle.cast_lines.specs.declared.rows.Row.{Row}
 use Rattle.cast_lines.specs.CastLines.{rows_text}
@@ -12,7 +12,7 @@ use Rattle.token_lines.specs.Lines.{lines_text}
 use Rattle.tree_print.specs.ScriptLines.{script_lines}
 use Rattle.cast_machine.specs.declared.data.End.{End}
 use Rattle.mono_cli.specs.Texts.{rendered}
-use Rattle.mono_cli.specs.Ends.{placed_line, reason_text, end_text, status_of_end}
+use Rattle.run_report.specs.Ends.{refusal_text, end_line, status_of}
 
 -- a status, the bytes for out and the bytes for err
 pub record Answer : Type 0 where
@@ -30,11 +30,16 @@ unfetched = record { status = 6; out = []; err = codes "error: script not fetche
 
 -- the answer to a script that is refused
 abbrev pub refused : Refusal → Answer
-refused r = record { status = 1; out = []; err = placed_line (codes "refused ") r.place (reason_text r.reason) }
+refused r = record { status = 1; out = []; err = refusal_text r }
+
+-- an err line where there is one
+abbrev pub line_text : Option (List ℕ) → List ℕ
+line_text None = []
+line_text (Some line) = line
 
 -- the answer to a script that printed these lines and came to this end
 abbrev pub ended : CastScript → List (List Val) → End → Answer
-ended p lines e = record { status = status_of_end e; out = rendered p.scoped.script.items lines; err = end_text p.sites e }
+ended p lines e = record { status = status_of e; out = rendered p.scoped.script.items lines; err = line_text (end_line p.sites e) }
 
 -- the head line of the output of the stress script of n tasks
 abbrev pub head_text : ℕ → List ℕ

@@ -2,13 +2,13 @@
 
 -- the texts of printed values and lines
 pub mod Texts
--- the status and the line of an end, and of a refusal
-pub mod Ends
 -- an answer: status, output and error line
 pub mod Answer
--- what of an answer is shown
-pub mod Showing
+-- what of an answer is put
+pub mod Putting
 -- what a script's bytes come to
 pub mod Scripts
 -- the answer of a command
 pub mod Commands
+-- what the top call says, clause by clause
+pub mod Top

@@ -68,7 +68,7 @@ abbrev pub IsAccepted : Verb → Accepted → Answer → Type 0
 IsAccepted verb.Check p a = a ≡ passed
 IsAccepted verb.Show p a = IsListing p.script.scoped.script a
 IsAccepted verb.Casts p a = IsCastList p.script a
-IsAccepted verb.Types p a = a ≡ types_listed p.closed.keys
+IsAccepted verb.Types p a = a ≡ types_listed ((p.program).table).types
 IsAccepted (verb.Step s seed) p a = IsRunAnswer p.script s seed a
 IsAccepted (verb.Stress s seed n) p a = IsHeaded (head_text n) (IsRunAnswer p.script s seed) a
 

@@ -3,12 +3,11 @@
 //! refused exactly where the rules refuse it, that the run of every other one is safe, and that its printed text reads back.
 #![tactic(auto)]
 
-mod ends;
 mod listing;
+mod putting;
 mod refusals;
 mod render;
 mod run;
-mod show;
 mod top;
 mod verb;
 

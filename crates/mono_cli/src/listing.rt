@@ -5,7 +5,7 @@ ghost use Rattle.mono_syntax.specs.Ty.{Ty};
 ghost use Rattle.mono_tree.specs.TypeText.{HasTextNames};
 ghost use Rattle.mono_cli.specs.Answer.{passed, types_text, types_listed};
 ghost use Rattle.mono_cli.specs.Scripts.{IsCastList, IsListing};
-ghost use Rattle.mono_cli.specs.Showing.{IsShown, Shows};
+ghost use Rattle.mono_cli.specs.Putting.{stream, IsPut, PutsAnswer};
 
 use crate::render::put_piece;
 use mono_io::{Sink, SinkFault};
@@ -46,9 +46,9 @@ fn put_each_line<K: Sink>(text: &[u8], out: &mut K) -> Result<(), SinkFault>
 }
 
 /// Puts a text on out line by line, and gives the status; nothing is for err.
-fn show_lines<K: Sink>(text: &[u8], out: &mut K) -> u8
-    ensures { (x : Option (List ℕ)) (e : ℕ) → IsShown (record { status = 0; out = text.now; err = [] })
-        (K.told out.old) (K.told out.new) (K.faults out.old) (K.faults out.new) x x e e result }
+fn put_text<K: Sink>(text: &[u8], out: &mut K) -> u8
+    ensures { (x : Option (List ℕ)) (e : ℕ) → IsPut (record { status = 0; out = text.now; err = [] })
+        (stream (K.told out.old) (K.told out.new) (K.faults out.old) (K.faults out.new)) (stream x x e e) result }
 {
     match put_each_line(text, out) {
         Ok(()) => 0,
@@ -57,36 +57,36 @@ fn show_lines<K: Sink>(text: &[u8], out: &mut K) -> u8
     }
 }
 
-/// Shows that nothing is wrong with a script.
-pub fn show_passed<K: Sink>(out: &mut K) -> u8
-    ensures { (x : Option (List ℕ)) (e : ℕ) → Shows (λ a. a ≡ passed)
-        (K.told out.old) (K.told out.new) (K.faults out.old) (K.faults out.new) x x e e result }
+/// Puts that nothing is wrong with a script.
+pub fn put_passed<K: Sink>(out: &mut K) -> u8
+    ensures { (x : Option (List ℕ)) (e : ℕ) → PutsAnswer (λ a. a ≡ passed)
+        (stream (K.told out.old) (K.told out.new) (K.faults out.old) (K.faults out.new)) (stream x x e e) result }
 {
-    show_lines(b"ok\n", out)
+    put_text(b"ok\n", out)
 }
 
-/// Shows the casts of a script.
-pub fn show_casts<K: Sink>(alloc: Global, script: &CastScript, out: &mut K) -> u8
+/// Puts the casts of a script.
+pub fn put_casts<K: Sink>(alloc: Global, script: &CastScript, out: &mut K) -> u8
     requires texts { (t : Ty) → Contains script.now.types t → HasTextNames t }
-    ensures { (x : Option (List ℕ)) (e : ℕ) → Shows (λ a. IsCastList script.now a)
-        (K.told out.old) (K.told out.new) (K.faults out.old) (K.faults out.new) x x e e result }
+    ensures { (x : Option (List ℕ)) (e : ℕ) → PutsAnswer (λ a. IsCastList script.now a)
+        (stream (K.told out.old) (K.told out.new) (K.faults out.old) (K.faults out.new)) (stream x x e e) result }
 {
     let Ok(text) = print_casts(alloc, script) else {
         return 8;
     };
-    show_lines(text.as_bytes(), out)
+    put_text(text.as_bytes(), out)
 }
 
-/// Shows a script's text.
-pub fn show_listing<K: Sink>(alloc: Global, script: &Script, out: &mut K) -> u8
+/// Puts a script's text.
+pub fn put_listing<K: Sink>(alloc: Global, script: &Script, out: &mut K) -> u8
     requires { IsGrammatical script.now }
-    ensures { (x : Option (List ℕ)) (e : ℕ) → Shows (λ a. IsListing script.now a)
-        (K.told out.old) (K.told out.new) (K.faults out.old) (K.faults out.new) x x e e result }
+    ensures { (x : Option (List ℕ)) (e : ℕ) → PutsAnswer (λ a. IsListing script.now a)
+        (stream (K.told out.old) (K.told out.new) (K.faults out.old) (K.faults out.new)) (stream x x e e) result }
 {
     let Ok(text) = print_script(alloc, script) else {
         return 8;
     };
-    show_lines(text.as_bytes(), out)
+    put_text(text.as_bytes(), out)
 }
 
 /// The text with one more line: a type's number, a space, and its text.
@@ -118,13 +118,13 @@ fn types_text(alloc: Global, types: &[Ty]) -> Result<Vec<u8>, AllocError>
     Ok(text)
 }
 
-/// Shows the closed types of a script.
-pub fn show_types<K: Sink>(alloc: Global, types: &[Ty], out: &mut K) -> u8
-    ensures { (x : Option (List ℕ)) (e : ℕ) → Shows (λ a. a ≡ types_listed types.now)
-        (K.told out.old) (K.told out.new) (K.faults out.old) (K.faults out.new) x x e e result }
+/// Puts the closed types of a script.
+pub fn put_types<K: Sink>(alloc: Global, types: &[Ty], out: &mut K) -> u8
+    ensures { (x : Option (List ℕ)) (e : ℕ) → PutsAnswer (λ a. a ≡ types_listed types.now)
+        (stream (K.told out.old) (K.told out.new) (K.faults out.old) (K.faults out.new)) (stream x x e e) result }
 {
     let Ok(text) = types_text(alloc, types) else {
         return 8;
     };
-    show_lines(text.as_slice(), out)
+    put_text(text.as_slice(), out)
 }

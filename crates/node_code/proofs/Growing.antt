@@ -1,12 +1,13 @@
 -- Tables that grow: each node stands for its tree still.
-use Rattle.std.proofs.Common.{◌≡◌, ℕ, List, [], ◌∷◌, ◌++◌, length, refl, sym, ap, subst, ◌⊎◌, inl, inr}
+use Rattle.std.proofs.Common.{◌≡◌, ◌∙◌, ℕ, List, [], ◌∷◌, ◌++◌, length, refl, sym, ap, subst, ◌⊎◌, inl, inr}
 use Rattle.std.specs.Prelude.{Option, Some, None, Result, Ok, Err, IfOk}
 use Rattle.mono_syntax.specs.declared.cast.Arg.{Arg}
 use Rattle.mono_syntax.specs.declared.cast.CastBranch.{CastBranch}
 use Rattle.mono_syntax.specs.CastExpr.{CastExpr}
 use Rattle.mono_syntax.specs.CastStmt.{CastStmt}
 use Rattle.node_code.specs.NodeMeaning.{Trees, IsArg, IsValue, IsBranch, IsElse, NodeIs, StmtIs, BodyIs, IsMeant}
-use Rattle.mono_syntax.specs.Ty.{Ty}
+use Rattle.mono_tree.specs.TypeNumbers.{Names}
+use Rattle.type_numbers.specs.Tables.{Table}
 use Rattle.node_code.specs.Numbering.{Grows, Gives, GivesExpr, GivesValues, GivesArgs, ListsValues, ListsArgs}
 use Rattle.node_code.specs.Texts.{IsText}
 use Rattle.node_code.specs.computed.MoreTables.{IsListed, HasText}
@@ -30,7 +31,7 @@ use Rattle.node_code.proofs.PlaceLaws.{each_length, each_more, each_so, get_new,
 pub grows_same : (a : Tables) (m : Trees) → Grows a m a m
 grows_same a m = record {
   texts = λ n x e. e;
-  types = λ n x e. e;
+  table = refl;
   lists = λ n x e. e;
   branches = λ n x e. e;
   exprs = λ n x e. e;
@@ -41,7 +42,7 @@ grows_same a m = record {
 pub grows_on : {a b c : Tables} {m n o : Trees} → Grows a m b n → Grows b n c o → Grows a m c o
 grows_on f g = record {
   texts = λ i x e. g.texts i x (f.texts i x e);
-  types = λ i x e. g.types i x (f.types i x e);
+  table = f.table ∙ g.table;
   lists = λ i x e. g.lists i x (f.lists i x e);
   branches = λ i x e. g.branches i x (f.branches i x e);
   exprs = λ i x e. g.exprs i x (f.exprs i x e);
@@ -89,7 +90,8 @@ module _ (s : Slots) (a b : Tables) (m n : Trees) (g : Grows a m b n) where
   stmt_kept (stmt_node.Print l) e h = (h.0, h.1, g.lists l h.0 h.2, values_kept h.0 h.1 h.3, h.4)
   stmt_kept (stmt_node.Assign i x) e h = (h.0, h.1, h.2, g.exprs x h.1 h.3, h.4)
   stmt_kept (stmt_node.Write k l y x i z) e h =
-      (h.0, h.1, h.2, h.3, g.types y h.0 h.4, g.exprs x h.1 h.5, g.texts i h.2 h.6, g.exprs z h.3 h.7, h.8)
+      let is = subst (λ (t : Table). Names t.types y h.0) g.table h.4 in
+      (h.0, h.1, h.2, h.3, is, g.exprs x h.1 h.5, g.texts i h.2 h.6, g.exprs z h.3 h.7, h.8)
   stmt_kept (stmt_node.Start i k x l) e h = (h.0, h.1, h.2, h.3, h.4, g.exprs x h.1 h.5, g.lists l h.2 h.6, args_kept h.2 h.3 h.7, h.8)
   stmt_kept (stmt_node.Plain x) e h = (h.0, g.exprs x h.0 h.1, h.2)
   stmt_kept (stmt_node.If l last) e h = (h.0, h.1, h.2, g.branches l h.0 h.3, branches_kept h.0 h.1 h.4, else_kept last h.2 h.5, h.6)
@@ -102,9 +104,15 @@ module _ (s : Slots) (a b : Tables) (m n : Trees) (g : Grows a m b n) where
   pub meant_kept : (b.code).nodes ≡ (a.code).nodes → (b.code).stmts ≡ (a.code).stmts → (b.code).bodies ≡ (a.code).bodies
       → n ≡ m → IsMeant s a m → IsMeant s b n
   meant_kept p q r same ok = record {
-    exprs = subst (λ (z : List Node). Each (NodeIs s b n) z n.exprs) (sym p) (subst (λ (z : List CastExpr). Each (NodeIs s b n) (a.code).nodes z) (sym (ap (λ (t : Trees). t.exprs) same)) (each_so (NodeIs s a m) (NodeIs s b n) node_kept (a.code).nodes m.exprs ok.exprs));
-    stmts = subst (λ (z : List StmtNode). Each (StmtIs s b n) z n.stmts) (sym q) (subst (λ (z : List CastStmt). Each (StmtIs s b n) (a.code).stmts z) (sym (ap (λ (t : Trees). t.stmts) same)) (each_so (StmtIs s a m) (StmtIs s b n) stmt_kept (a.code).stmts m.stmts ok.stmts));
-    bodies = subst (λ (z : List (List ℕ)). Each (BodyIs n) z n.bodies) (sym r) (subst (λ (z : List (List CastStmt)). Each (BodyIs n) (a.code).bodies z) (sym (ap (λ (t : Trees). t.bodies) same)) (each_so (BodyIs m) (BodyIs n) body_kept (a.code).bodies m.bodies ok.bodies));
+    exprs = subst (λ (z : List Node). Each (NodeIs s b n) z n.exprs) (sym p)
+        (subst (λ (z : List CastExpr). Each (NodeIs s b n) (a.code).nodes z) (sym (ap (λ (t : Trees). t.exprs) same))
+        (each_so (NodeIs s a m) (NodeIs s b n) node_kept (a.code).nodes m.exprs ok.exprs));
+    stmts = subst (λ (z : List StmtNode). Each (StmtIs s b n) z n.stmts) (sym q)
+        (subst (λ (z : List CastStmt). Each (StmtIs s b n) (a.code).stmts z) (sym (ap (λ (t : Trees). t.stmts) same))
+        (each_so (StmtIs s a m) (StmtIs s b n) stmt_kept (a.code).stmts m.stmts ok.stmts));
+    bodies = subst (λ (z : List (List ℕ)). Each (BodyIs n) z n.bodies) (sym r)
+        (subst (λ (z : List (List CastStmt)). Each (BodyIs n) (a.code).bodies z) (sym (ap (λ (t : Trees). t.bodies) same))
+        (each_so (BodyIs m) (BodyIs n) body_kept (a.code).bodies m.bodies ok.bodies));
   }
 
 -- ---- one more
@@ -123,7 +131,7 @@ put_node s a t m d e h =
     let new : Trees = record old { exprs = old.exprs ++ e ∷ [] } in
     let g : Grows t old (with_node t d) new = record {
       texts = λ n x i. i;
-      types = λ n x i. i;
+      table = refl;
       lists = λ n x i. i;
       branches = λ n x i. i;
       exprs = keeps_more old.exprs e;
@@ -135,12 +143,15 @@ put_node s a t m d e h =
       grows = grows_on h.grows g;
       meant = record {
         exprs = each_more (NodeIs s (with_node t d) new) (t.code).nodes old.exprs d e
-            (each_so (NodeIs s t old) (NodeIs s (with_node t d) new) (node_kept s t (with_node t d) old new g) (t.code).nodes old.exprs (h.meant).exprs)
+            (each_so (NodeIs s t old) (NodeIs s (with_node t d) new) (node_kept s t (with_node t d) old new g) (t.code).nodes old.exprs
+            (h.meant).exprs)
             (node_kept s t (with_node t d) old new g d e h.here);
-        stmts = each_so (StmtIs s t old) (StmtIs s (with_node t d) new) (stmt_kept s t (with_node t d) old new g) (t.code).stmts old.stmts (h.meant).stmts;
+        stmts = each_so (StmtIs s t old) (StmtIs s (with_node t d) new) (stmt_kept s t (with_node t d) old new g) (t.code).stmts old.stmts
+            (h.meant).stmts;
         bodies = each_so (BodyIs old) (BodyIs new) (body_kept s t (with_node t d) old new g) (t.code).bodies old.bodies (h.meant).bodies;
       };
-      here = subst (λ (k : ℕ). At new.exprs k e) (sym (each_length (NodeIs s t old) (t.code).nodes old.exprs (h.meant).exprs)) (get_new old.exprs e);
+      here = subst (λ (k : ℕ). At new.exprs k e) (sym (each_length (NodeIs s t old) (t.code).nodes old.exprs (h.meant).exprs))
+          (get_new old.exprs e);
     }
 
 -- ---- texts and lists
@@ -152,8 +163,8 @@ text_kept_by ts x r h = elim h.texts [
 ]
 
 pub text_kept : (a : Tables) (x : List ℕ) (r : TextAt) → IsText a.texts x r
-    → HasText a x (record { at = r.at; tables = record { texts = r.texts; types = a.types; code = a.code } })
-text_kept a x r h = record { at = h.at; keeps = text_kept_by a.texts x r h; types = refl; code = refl }
+    → HasText a x (record { at = r.at; tables = record { texts = r.texts; table = a.table; code = a.code } })
+text_kept a x r h = record { at = h.at; keeps = text_kept_by a.texts x r h; table = refl; code = refl }
 
 -- one text more, the trees as before
 pub texted : (s : Slots) (a : Tables) (m : Trees) (x : List ℕ) (r : Numbered) → IsMeant s a m → HasText a x r
@@ -162,7 +173,7 @@ texted s a m x r ok h =
     let b = r.tables in
     let g : Grows a m b m = record {
       texts = h.keeps;
-      types = subst (λ (z : List Ty). Keeps a.types z) (sym h.types) (λ n y i. i);
+      table = sym h.table;
       lists = subst (λ (z : Code). Keeps (a.code).lists z.lists) (sym h.code) (λ n y i. i);
       branches = subst (λ (z : Code). Keeps (a.code).branches z.branches) (sym h.code) (λ n y i. i);
       exprs = λ n y i. i;
@@ -172,7 +183,8 @@ texted s a m x r ok h =
     record {
       trees = m;
       grows = g;
-      meant = meant_kept s a b m m g (ap (λ (z : Code). z.nodes) h.code) (ap (λ (z : Code). z.stmts) h.code) (ap (λ (z : Code). z.bodies) h.code) refl ok;
+      meant = meant_kept s a b m m g (ap (λ (z : Code). z.nodes) h.code) (ap (λ (z : Code). z.stmts) h.code)
+          (ap (λ (z : Code). z.bodies) h.code) refl ok;
       here = h.at;
     }
 
@@ -183,7 +195,7 @@ with_lists t ls = record t { code = record t.code { lists = ls } }
 list_grows : (t : Tables) (m : Trees) (l : List ArgNode) → Grows t m (with_lists t ((t.code).lists ++ l ∷ [])) m
 list_grows t m l = record {
   texts = λ n y i. i;
-  types = λ n y i. i;
+  table = refl;
   lists = keeps_more (t.code).lists l;
   branches = λ n y i. i;
   exprs = λ n y i. i;
@@ -191,7 +203,8 @@ list_grows t m l = record {
   bodies = λ n y i. i;
 }
 
-pub values_listed : (s : Slots) (a : Tables) (m : Trees) (es : List CastExpr) (b : Many) (r : Numbered) → GivesValues s a m es b → IsListed b r → ListsValues s a m es r
+pub values_listed : (s : Slots) (a : Tables) (m : Trees) (es : List CastExpr) (b : Many) (r : Numbered) → GivesValues s a m es b
+    → IsListed b r → ListsValues s a m es r
 values_listed s a m es b r h e =
     let t = b.tables in
     let g = list_grows t h.trees b.nodes in
@@ -202,7 +215,8 @@ values_listed s a m es b r h e =
       here = (b.nodes, get_new (t.code).lists b.nodes, h.here);
     })
 
-pub args_listed : (s : Slots) (a : Tables) (m : Trees) (given : List Arg) (b : Many) (r : Numbered) → GivesArgs s a m given b → IsListed b r → ListsArgs s a m given r
+pub args_listed : (s : Slots) (a : Tables) (m : Trees) (given : List Arg) (b : Many) (r : Numbered) → GivesArgs s a m given b
+    → IsListed b r → ListsArgs s a m given r
 args_listed s a m given b r h e =
     let t = b.tables in
     let g = list_grows t h.trees b.nodes in
@@ -238,7 +252,8 @@ values_more s a t m ns es e r f g = record {
   trees = g.trees;
   grows = grows_on f.grows g.grows;
   meant = g.meant;
-  here = each_more (IsValue g.trees) ns es (record { site = None; node = r.at }) e (values_kept s t r.tables f.trees g.trees g.grows ns es f.here) (refl, g.here);
+  here = each_more (IsValue g.trees) ns es (record { site = None; node = r.at }) e
+      (values_kept s t r.tables f.trees g.trees g.grows ns es f.here) (refl, g.here);
 }
 
 -- one more argument
@@ -249,7 +264,8 @@ args_more s a t m ns given x r f g = record {
   trees = g.trees;
   grows = grows_on f.grows g.grows;
   meant = g.meant;
-  here = each_more (IsArg g.trees) ns given (record { site = x.site; node = r.at }) x (args_kept s t r.tables f.trees g.trees g.grows ns given f.here) (refl, g.here);
+  here = each_more (IsArg g.trees) ns given (record { site = x.site; node = r.at }) x
+      (args_kept s t r.tables f.trees g.trees g.grows ns given f.here) (refl, g.here);
 }
 
 -- none yet

@@ -22,14 +22,16 @@ pub keeps_on : {A : Type 0} (xs ys zs : List A) → Keeps xs ys → Keeps ys zs 
 keeps_on xs ys zs f g n x e = g n x (f n x e)
 
 -- one more pair
-pub each_more : {A B : Type 0} (R : A → B → Type 0) (xs : List A) (ys : List B) (x : A) (y : B) → Each R xs ys → R x y → Each R (xs ++ x ∷ []) (ys ++ y ∷ [])
+pub each_more : {A B : Type 0} (R : A → B → Type 0) (xs : List A) (ys : List B) (x : A) (y : B) → Each R xs ys → R x y
+    → Each R (xs ++ x ∷ []) (ys ++ y ∷ [])
 each_more R [] [] x y h r = (r, tt)
 each_more R [] (b ∷ ys) x y h r = absurd h
 each_more R (a ∷ xs) [] x y h r = absurd h
 each_more R (a ∷ xs) (b ∷ ys) x y h r = (h.0, each_more R xs ys x y h.1 r)
 
 -- another relation
-pub each_so : {A B : Type 0} (R S : A → B → Type 0) → ((x : A) (y : B) → R x y → S x y) → (xs : List A) (ys : List B) → Each R xs ys → Each S xs ys
+pub each_so : {A B : Type 0} (R S : A → B → Type 0) → ((x : A) (y : B) → R x y → S x y) → (xs : List A) (ys : List B) → Each R xs ys
+    → Each S xs ys
 each_so R S f [] [] h = tt
 each_so R S f [] (b ∷ ys) h = absurd h
 each_so R S f (a ∷ xs) [] h = absurd h

@@ -1,12 +1,10 @@
--- Tables that get a statement, a body, a list of branches or a type.
+-- Tables that get a statement, a body or a list of branches.
 use Rattle.std.proofs.Common.{◌≡◌, ℕ, List, [], ◌∷◌, ◌++◌, length, refl, sym, subst}
 use Rattle.std.specs.Prelude.{Some, Result, Ok, Err, IfOk}
 use Rattle.mono_syntax.specs.declared.cast.CastBranch.{CastBranch}
 use Rattle.mono_syntax.specs.CastStmt.{CastStmt}
-use Rattle.mono_syntax.specs.Ty.{Ty}
 use Rattle.node_code.specs.NodeMeaning.{Trees, IsBranch, NodeIs, StmtIs, BodyIs, IsMeant}
 use Rattle.node_code.specs.Numbering.{Grows, Gives, GivesExpr, GivesStmt, GivesStmts, GivesBody, GivesBranches, ListsBranches}
-use Rattle.node_code.specs.computed.MoreTables.{IsTyped}
 use Rattle.node_code.specs.Places.{At, Keeps, Each}
 use Rattle.node_code.specs.declared.data.BranchNode.{BranchNode}
 use Rattle.node_code.specs.declared.data.Slots.{Slots}
@@ -31,7 +29,7 @@ put_stmt s a t m d e h =
     let b : Tables = with_stmts t ((t.code).stmts ++ d ∷ []) in
     let g : Grows t old b new = record {
       texts = λ n x i. i;
-      types = λ n x i. i;
+      table = refl;
       lists = λ n x i. i;
       branches = λ n x i. i;
       exprs = λ n x i. i;
@@ -48,7 +46,8 @@ put_stmt s a t m d e h =
             (stmt_kept s t b old new g d e h.here);
         bodies = each_so (BodyIs old) (BodyIs new) (body_kept s t b old new g) (t.code).bodies old.bodies (h.meant).bodies;
       };
-      here = subst (λ (k : ℕ). At new.stmts k e) (sym (each_length (StmtIs s t old) (t.code).stmts old.stmts (h.meant).stmts)) (get_new old.stmts e);
+      here = subst (λ (k : ℕ). At new.stmts k e) (sym (each_length (StmtIs s t old) (t.code).stmts old.stmts (h.meant).stmts))
+          (get_new old.stmts e);
     }
 
 -- ---- a body
@@ -64,7 +63,7 @@ put_body s a t m ns e h =
     let b : Tables = with_bodies t ((t.code).bodies ++ ns ∷ []) in
     let g : Grows t old b new = record {
       texts = λ n x i. i;
-      types = λ n x i. i;
+      table = refl;
       lists = λ n x i. i;
       branches = λ n x i. i;
       exprs = λ n x i. i;
@@ -81,7 +80,8 @@ put_body s a t m ns e h =
             (each_so (BodyIs old) (BodyIs new) (body_kept s t b old new g) (t.code).bodies old.bodies (h.meant).bodies)
             (body_kept s t b old new g ns e h.here);
       };
-      here = subst (λ (k : ℕ). At new.bodies k e) (sym (each_length (BodyIs old) (t.code).bodies old.bodies (h.meant).bodies)) (get_new old.bodies e);
+      here = subst (λ (k : ℕ). At new.bodies k e) (sym (each_length (BodyIs old) (t.code).bodies old.bodies (h.meant).bodies))
+          (get_new old.bodies e);
     }
 
 -- ---- a list of branches
@@ -89,13 +89,14 @@ put_body s a t m ns e h =
 abbrev pub with_branches : Tables → List (List BranchNode) → Tables
 with_branches t ls = record t { code = record t.code { branches = ls } }
 
-pub put_branches : (s : Slots) (a t : Tables) (m : Trees) (ns : List BranchNode) (bs : List CastBranch) → Gives s a m t (λ x. Each (IsBranch x) ns bs)
+pub put_branches : (s : Slots) (a t : Tables) (m : Trees) (ns : List BranchNode) (bs : List CastBranch)
+    → Gives s a m t (λ x. Each (IsBranch x) ns bs)
     → ListsBranches s a m bs (record { at = length (t.code).branches; tables = with_branches t ((t.code).branches ++ ns ∷ []) })
 put_branches s a t m ns bs h =
     let b : Tables = with_branches t ((t.code).branches ++ ns ∷ []) in
     let g : Grows t h.trees b h.trees = record {
       texts = λ n x i. i;
-      types = λ n x i. i;
+      table = refl;
       lists = λ n x i. i;
       branches = keeps_more (t.code).branches ns;
       exprs = λ n x i. i;
@@ -108,27 +109,6 @@ put_branches s a t m ns bs h =
       meant = meant_kept s t b h.trees h.trees g refl refl refl refl h.meant;
       here = (ns, get_new (t.code).branches ns, h.here);
     }
-
--- ---- a type
-
-pub typed : (s : Slots) (a : Tables) (m : Trees) (y : Ty) (r : Numbered) → IsMeant s a m → IsTyped a y r → Gives s a m r.tables (λ t. At (r.tables).types r.at y)
-typed s a m y r ok e =
-    let b : Tables = record a { types = a.types ++ y ∷ [] } in
-    let g : Grows a m b m = record {
-      texts = λ n x i. i;
-      types = keeps_more a.types y;
-      lists = λ n x i. i;
-      branches = λ n x i. i;
-      exprs = λ n x i. i;
-      stmts = λ n x i. i;
-      bodies = λ n x i. i;
-    } in
-    subst (λ (z : Numbered). Gives s a m z.tables (λ t. At (z.tables).types z.at y)) (sym e) (record {
-      trees = m;
-      grows = g;
-      meant = meant_kept s a b m m g refl refl refl refl ok;
-      here = get_new a.types y;
-    })
 
 -- ---- one behind the others
 
@@ -143,7 +123,8 @@ stmts_more s a t m ns es e r f g = record {
 }
 
 pub branches_more : (s : Slots) (a t : Tables) (m : Trees) (ns : List BranchNode) (bs : List CastBranch) (x : CastBranch) (c b : Numbered)
-    → (f : GivesBranches s a m bs (record { branches = ns; tables = t })) → (g : GivesExpr s t f.trees x.condition c) → GivesBody s c.tables g.trees x.body b
+    → (f : GivesBranches s a m bs (record { branches = ns; tables = t })) → (g : GivesExpr s t f.trees x.condition c)
+    → GivesBody s c.tables g.trees x.body b
     → GivesBranches s a m (bs ++ x ∷ []) (record { branches = ns ++ record { condition = c.at; body = b.at } ∷ []; tables = b.tables })
 branches_more s a t m ns bs x c b f g h =
     let both = grows_on g.grows h.grows in
@@ -151,6 +132,7 @@ branches_more s a t m ns bs x c b f g h =
       trees = h.trees;
       grows = grows_on f.grows both;
       meant = h.meant;
-      here = each_more (IsBranch h.trees) ns bs (record { condition = c.at; body = b.at }) x (branches_kept s t b.tables f.trees h.trees both ns bs f.here)
+      here = each_more (IsBranch h.trees) ns bs (record { condition = c.at; body = b.at }) x
+          (branches_kept s t b.tables f.trees h.trees both ns bs f.here)
           ((h.grows).exprs c.at x.condition g.here, h.here);
     }

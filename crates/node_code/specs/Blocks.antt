@@ -16,20 +16,21 @@ names_in ns = map (λ n. n.name) ns
 abbrev pub slots_of : CastBlock → Slots
 slots_of b = record { names = names_in b.names; threads = names_in b.threads }
 
--- the same block by numbers, over these texts and types: its names are the block's, its nodes stand for trees, and its body is the block's
+-- the same block by numbers, over these texts and this table of types: its names are the block's, its nodes stand for trees, and its body
+-- is the block's
 pub record IsBlock (p : Pool) (b : CastBlock) (r : Block) : Type 0 where
   pub names : r.names ≡ names_in b.names
   pub threads : r.threads ≡ names_in b.threads
   pub trees : Trees
-  pub meant : IsMeant (slots_of b) (record { texts = p.texts; types = p.types; code = r.code }) trees
+  pub meant : IsMeant (slots_of b) (record { texts = p.texts; table = p.table; code = r.code }) trees
   pub body : At trees.bodies r.body b.body
 
--- texts and types keep what they have
+-- texts keep what they have, and the table of types stays as it is
 pub record PoolGrows (a b : Pool) : Type 0 where
   pub texts : Keeps a.texts b.texts
-  pub types : Keeps a.types b.types
+  pub table : a.table ≡ b.table
 
--- the block stands over the texts and types behind it
+-- the block stands over the texts behind it
 pub record AddsBlock (b : CastBlock) (a : Pool) (r : WithBlock) : Type 0 where
   pub grows : PoolGrows a r.pool
   pub block : IsBlock r.pool b r.block

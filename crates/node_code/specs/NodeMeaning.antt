@@ -10,6 +10,7 @@ use Rattle.mono_syntax.specs.CastExprView.{args, cast_exprs}
 use Rattle.mono_syntax.specs.CastStmt.{CastStmt}
 use Rattle.mono_syntax.specs.CastStmt as stmt
 use Rattle.mono_syntax.specs.CastStmtView.{cast_block, cast_branches, cast_else_block}
+use Rattle.mono_tree.specs.TypeNumbers.{Names}
 use Rattle.node_code.specs.Places.{At, Each}
 use Rattle.node_code.specs.declared.data.ArgNode.{ArgNode}
 use Rattle.node_code.specs.declared.data.BranchNode.{BranchNode}
@@ -64,7 +65,8 @@ NodeIs s t m (node.And a b) e = (u : CastExpr) × (v : CastExpr) × At m.exprs a
 NodeIs s t m (node.Or a b) e = (u : CastExpr) × (v : CastExpr) × At m.exprs a u × At m.exprs b v × (e ≡ expr.either u v)
 NodeIs s t m (node.Read k a i) e = (u : CastExpr) × (x : List ℕ) × At m.exprs a u × At t.texts i x × (e ≡ expr.read k u x)
 NodeIs s t m (node.New c l) e =
-    (ns : List ArgNode) × (given : List CastExpr) × At (t.code).lists l ns × Each (IsValue m) ns given × (e ≡ expr.make c (cast_exprs given))
+    (ns : List ArgNode) × (given : List CastExpr) × At (t.code).lists l ns × Each (IsValue m) ns given
+    × (e ≡ expr.make c (cast_exprs given))
 NodeIs s t m (node.Call k a l) e =
     (u : CastExpr) × (ns : List ArgNode) × (given : List Arg) × At m.exprs a u × At (t.code).lists l ns × Each (IsArg m) ns given
     × (e ≡ expr.call k u (args given))
@@ -81,7 +83,8 @@ StmtIs s t m (stmt_node.Print l) e =
     (ns : List ArgNode) × (given : List CastExpr) × At (t.code).lists l ns × Each (IsValue m) ns given × (e ≡ stmt.print (cast_exprs given))
 StmtIs s t m (stmt_node.Assign i a) e = (x : List ℕ) × (u : CastExpr) × At s.names i x × At m.exprs a u × (e ≡ stmt.assign x u)
 StmtIs s t m (stmt_node.Write k l y a i b) e =
-    (is : Ty) × (u : CastExpr) × (x : List ℕ) × (v : CastExpr) × At t.types y is × At m.exprs a u × At t.texts i x × At m.exprs b v
+    (is : Ty) × (u : CastExpr) × (x : List ℕ) × (v : CastExpr) × Names (t.table).types y is × At m.exprs a u × At t.texts i x
+    × At m.exprs b v
     × (e ≡ stmt.write k l is u x v)
 StmtIs s t m (stmt_node.Start i k a l) e =
     (x : List ℕ) × (u : CastExpr) × (ns : List ArgNode) × (given : List Arg) × At s.threads i x × At m.exprs a u × At (t.code).lists l ns

@@ -1,5 +1,5 @@
 -- A block that has got more nodes: what stood in it stands there still.
-use Rattle.std.specs.Prelude.{ℕ, List, Option}
+use Rattle.std.specs.Prelude.{◌≡◌, ℕ, List, Option}
 use Rattle.mono_syntax.specs.declared.cast.Arg.{Arg}
 use Rattle.mono_syntax.specs.declared.cast.CastBranch.{CastBranch}
 use Rattle.mono_syntax.specs.CastExpr.{CastExpr}
@@ -18,10 +18,10 @@ use Rattle.node_code.specs.declared.put.Many.{Many}
 use Rattle.node_code.specs.declared.put.Numbered.{Numbered}
 use Rattle.node_code.specs.declared.stmts.Else.{Else}
 
--- the tables b with the trees n have all that a with the trees m have, at the same numbers
+-- the tables b with the trees n have all that a with the trees m have, at the same numbers, and the same table of types
 pub record Grows (a : Tables) (m : Trees) (b : Tables) (n : Trees) : Type 0 where
   pub texts : Keeps a.texts b.texts
-  pub types : Keeps a.types b.types
+  pub table : a.table ≡ b.table
   pub lists : Keeps (a.code).lists (b.code).lists
   pub branches : Keeps (a.code).branches (b.code).branches
   pub exprs : Keeps m.exprs n.exprs
@@ -85,4 +85,5 @@ GivesBranches s a m bs r = Gives s a m r.tables (λ t. Each (IsBranch t) r.branc
 
 -- the list of this number is the branches'
 abbrev pub ListsBranches : Slots → Tables → Trees → List CastBranch → Numbered → Type 0
-ListsBranches s a m bs r = Gives s a m r.tables (λ t. (ns : List BranchNode) × At ((r.tables).code).branches r.at ns × Each (IsBranch t) ns bs)
+ListsBranches s a m bs r = Gives s a m r.tables
+    (λ t. (ns : List BranchNode) × At ((r.tables).code).branches r.at ns × Each (IsBranch t) ns bs)

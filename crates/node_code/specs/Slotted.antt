@@ -1,7 +1,10 @@
--- Each name that a tree uses is a name of its block, and so has a slot.
-use Rattle.std.specs.Prelude.{ℕ, List, [], ◌∷◌}
-use Rattle.mono_syntax.specs.CastExpr.{Args, CastExpr, CastExprs, binary, both, call, either, fit, function, join, local, make, more_args, more_exprs, neg, negation, nil, no_args, no_exprs, number, read, text, truth}
-use Rattle.mono_syntax.specs.CastStmt.{CastBlock, CastBranches, CastElse, CastStmt, assign, give, if_any, loop, more_branches, more_stmts, no_branches, no_else, no_stmts, otherwise, pass, plain, print, start, write}
+-- Each name that a tree uses is a name of its block, and so has a slot; each type of a write is one of a list, and so has a number.
+use Rattle.std.specs.Prelude.{ℕ, List, [], ◌∷◌, Contains}
+use Rattle.mono_syntax.specs.CastExpr.{Args, CastExpr, CastExprs, binary, both, call, either, fit, function, join, local, make, more_args}
+use Rattle.mono_syntax.specs.CastExpr.{more_exprs, neg, negation, nil, no_args, no_exprs, number, read, text, truth}
+use Rattle.mono_syntax.specs.CastStmt.{CastBlock, CastBranches, CastElse, CastStmt, assign, give, if_any, loop, more_branches, more_stmts}
+use Rattle.mono_syntax.specs.CastStmt.{no_branches, no_else, no_stmts, otherwise, pass, plain, print, start, write}
+use Rattle.mono_syntax.specs.Ty.{Ty}
 use Rattle.node_code.specs.Places.{At}
 use Rattle.node_code.specs.declared.data.Slots.{Slots}
 
@@ -43,26 +46,26 @@ abbrev mutual
   ArgsSlotted s (more_args k e rest) = IsSlotted s e × ArgsSlotted s rest
 
 abbrev mutual
-  -- the names of a statement
-  pub StmtSlotted : Slots → CastStmt → Type 0
-  StmtSlotted s pass = Unit {0}
-  StmtSlotted s (give k e) = IsSlotted s e
-  StmtSlotted s (print es) = AreSlotted s es
-  StmtSlotted s (assign x e) = HasSlot s.names x × IsSlotted s e
-  StmtSlotted s (write m k t o x e) = IsSlotted s o × IsSlotted s e
-  StmtSlotted s (start x k e given) = HasSlot s.threads x × IsSlotted s e × ArgsSlotted s given
-  StmtSlotted s (plain e) = IsSlotted s e
-  StmtSlotted s (if_any bs last) = BranchesSlotted s bs × ElseSlotted s last
-  StmtSlotted s (loop e b) = IsSlotted s e × BlockSlotted s b
+  -- the names of a statement; the static type of a field to which it writes is one of these types
+  pub StmtSlotted : List Ty → Slots → CastStmt → Type 0
+  StmtSlotted types s pass = Unit {0}
+  StmtSlotted types s (give k e) = IsSlotted s e
+  StmtSlotted types s (print es) = AreSlotted s es
+  StmtSlotted types s (assign x e) = HasSlot s.names x × IsSlotted s e
+  StmtSlotted types s (write m k t o x e) = Contains types t × IsSlotted s o × IsSlotted s e
+  StmtSlotted types s (start x k e given) = HasSlot s.threads x × IsSlotted s e × ArgsSlotted s given
+  StmtSlotted types s (plain e) = IsSlotted s e
+  StmtSlotted types s (if_any bs last) = BranchesSlotted types s bs × ElseSlotted types s last
+  StmtSlotted types s (loop e b) = IsSlotted s e × BlockSlotted types s b
 
-  pub BlockSlotted : Slots → CastBlock → Type 0
-  BlockSlotted s no_stmts = Unit {0}
-  BlockSlotted s (more_stmts t ts) = StmtSlotted s t × BlockSlotted s ts
+  pub BlockSlotted : List Ty → Slots → CastBlock → Type 0
+  BlockSlotted types s no_stmts = Unit {0}
+  BlockSlotted types s (more_stmts t ts) = StmtSlotted types s t × BlockSlotted types s ts
 
-  pub BranchesSlotted : Slots → CastBranches → Type 0
-  BranchesSlotted s no_branches = Unit {0}
-  BranchesSlotted s (more_branches e b rest) = IsSlotted s e × BlockSlotted s b × BranchesSlotted s rest
+  pub BranchesSlotted : List Ty → Slots → CastBranches → Type 0
+  BranchesSlotted types s no_branches = Unit {0}
+  BranchesSlotted types s (more_branches e b rest) = IsSlotted s e × BlockSlotted types s b × BranchesSlotted types s rest
 
-  pub ElseSlotted : Slots → CastElse → Type 0
-  ElseSlotted s no_else = Unit {0}
-  ElseSlotted s (otherwise b) = BlockSlotted s b
+  pub ElseSlotted : List Ty → Slots → CastElse → Type 0
+  ElseSlotted types s no_else = Unit {0}
+  ElseSlotted types s (otherwise b) = BlockSlotted types s b

@@ -74,8 +74,8 @@ pub fn slots_for(alloc: Global, names: &NamePlaces, list: &[Name]) -> Result<Ite
     Ok(slots)
 }
 
-/// A block by numbers, with its slots: its code stands for its statements, over the program's texts and types, which keep what they
-/// have and get those of the block behind it.
+/// A block by numbers, with its slots: its code stands for its statements, over the program's texts and its table of types. The texts
+/// keep what they have and get those of the block behind it.
 pub fn number_block(
     alloc: Global,
     slots: &Slots,
@@ -84,16 +84,17 @@ pub fn number_block(
 ) -> Result<WithBlock, AllocError>
     requires { slots.now ≡ slots_of block.now }
 
-    // Each name that a statement of the block uses is one of its names, as in each well-typed block.
-    ensures { BlockSlotted (slots_of block.now) (cast_block block.now.body) → IfOk result (AddsBlock block.now pool) }
+    // Each name that a statement of the block uses is one of its names, as in each well-typed block, and the types of its writes have
+    // numbers.
+    ensures { BlockSlotted pool.table.types (slots_of block.now) (cast_block block.now.body) → IfOk result (AddsBlock block.now pool) }
 {
-    let Pool { texts, types } = pool;
+    let Pool { texts, table } = pool;
     let code = no_code(alloc);
-    let tables = Tables { texts, types, code };
+    let tables = Tables { texts, table, code };
     let body = number_body(alloc, slots, block.body.get().as_slice(), tables)?;
     let names = names_of(alloc, block.names.as_slice())?;
     let threads = names_of(alloc, block.threads.as_slice())?;
-    let Tables { texts, types, code } = body.tables;
+    let Tables { texts, table, code } = body.tables;
     Ok(WithBlock {
         block: Block {
             names,
@@ -101,6 +102,6 @@ pub fn number_block(
             code,
             body: body.at,
         },
-        pool: Pool { texts, types },
+        pool: Pool { texts, table },
     })
 }

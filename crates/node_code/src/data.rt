@@ -1,8 +1,8 @@
 use crate::texts::TextList;
-use mono_list::Shared;
-use mono_syntax::{Name, Op, Ty};
+use mono_syntax::{Name, Op, TypeNo};
 use name_places::NamePlaces;
 use sqlite_items::Items;
+use type_numbers::TypeTable;
 
 /// An expression by numbers. A part is a node of the same block, a name its slot, a text or the name of a field its number among
 /// the texts, and the arguments of a call or an object are a list.
@@ -51,8 +51,8 @@ pub enum StmtNode {
     Print(u32),
     /// The slot and the value.
     Assign(u32, u32),
-    /// The Member and Write sites where they stand, the field's static type among the types, the object, the field and the value.
-    Write(Option<u32>, Option<u32>, u32, u32, u32, u32),
+    /// The Member and Write sites where they stand, the number of the field's static type, the object, the field and the value.
+    Write(Option<u32>, Option<u32>, TypeNo, u32, u32, u32),
     /// The thread's slot, the Call site where one stands, the callee and the list of the arguments.
     Start(u32, Option<u32>, u32, u32),
     Plain(u32),
@@ -87,19 +87,19 @@ pub struct Slots {
     pub threads: NamePlaces,
 }
 
-/// The texts of a program, each once, the types at which it writes to fields, and the code of a block.
+/// The texts of a program, each once, the table of its types, and the code of a block.
 #[derive(Drop)]
 pub struct Tables {
     pub texts: TextList,
-    pub types: Items<Shared<Ty>>,
+    pub table: TypeTable,
     pub code: Code,
 }
 
-/// The texts of a program, each once, and the types at which it writes to fields.
+/// The texts of a program, each once, and the table of its types.
 #[derive(Drop)]
 pub struct Pool {
     pub texts: TextList,
-    pub types: Items<Shared<Ty>>,
+    pub table: TypeTable,
 }
 
 /// A block by numbers: its names by slot, those that hold values and those that hold threads, its code, and the number of the body
@@ -112,7 +112,7 @@ pub struct Block {
     pub body: u32,
 }
 
-/// A block by numbers, and the texts and types of the program.
+/// A block by numbers, and the texts and the table of the program.
 #[derive(Drop)]
 pub struct WithBlock {
     pub block: Block,

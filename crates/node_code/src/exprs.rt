@@ -48,7 +48,8 @@ fn node_of(
     kind: &CastExprKind,
     tables: Tables,
 ) -> Result<Made, AllocError>
-    ensures { (m : Trees) → IsMeant slots.now tables m → IsSlotted slots.now (cast_expr_of kind.now) → IfOk result (GivesNode slots.now tables m (cast_expr_of kind.now)) }
+    ensures { (m : Trees) → IsMeant slots.now tables m → IsSlotted slots.now (cast_expr_of kind.now)
+        → IfOk result (GivesNode slots.now tables m (cast_expr_of kind.now)) }
 {
     match kind {
         CastExprKind::Int(n) => Ok(Made {
@@ -168,7 +169,8 @@ pub(crate) fn number_values(
     list: &[Shared<CastExpr>],
     tables: Tables,
 ) -> Result<Numbered, AllocError>
-    ensures { (m : Trees) → IsMeant slots.now tables m → AreSlotted slots.now (cast_exprs list.now) → IfOk result (ListsValues slots.now tables m list.now) }
+    ensures { (m : Trees) → IsMeant slots.now tables m → AreSlotted slots.now (cast_exprs list.now)
+        → IfOk result (ListsValues slots.now tables m list.now) }
 {
     let many = value_nodes(alloc, slots, list, tables)?;
     put_list(many)
@@ -183,7 +185,8 @@ fn value_nodes(
     list: &[Shared<CastExpr>],
     tables: Tables,
 ) -> Result<Many, AllocError>
-    ensures { (m : Trees) → IsMeant slots.now tables m → AreSlotted slots.now (cast_exprs list.now) → IfOk result (GivesValues slots.now tables m list.now) }
+    ensures { (m : Trees) → IsMeant slots.now tables m → AreSlotted slots.now (cast_exprs list.now)
+        → IfOk result (GivesValues slots.now tables m list.now) }
 {
     let mut tables = tables;
     let mut nodes = Items::new(alloc);
@@ -207,7 +210,8 @@ pub(crate) fn number_args(
     list: &[Arg],
     tables: Tables,
 ) -> Result<Numbered, AllocError>
-    ensures { (m : Trees) → IsMeant slots.now tables m → ArgsSlotted slots.now (args list.now) → IfOk result (ListsArgs slots.now tables m list.now) }
+    ensures { (m : Trees) → IsMeant slots.now tables m → ArgsSlotted slots.now (args list.now)
+        → IfOk result (ListsArgs slots.now tables m list.now) }
 {
     let many = arg_nodes(alloc, slots, list, tables)?;
     put_list(many)
@@ -217,7 +221,8 @@ pub(crate) fn number_args(
 #[cycle(exprs)]
 #[tactic(auto, using(mono_syntax::proofs::Parts::parts))]
 fn arg_nodes(alloc: Global, slots: &Slots, list: &[Arg], tables: Tables) -> Result<Many, AllocError>
-    ensures { (m : Trees) → IsMeant slots.now tables m → ArgsSlotted slots.now (args list.now) → IfOk result (GivesArgs slots.now tables m list.now) }
+    ensures { (m : Trees) → IsMeant slots.now tables m → ArgsSlotted slots.now (args list.now)
+        → IfOk result (GivesArgs slots.now tables m list.now) }
 {
     let mut tables = tables;
     let mut nodes = Items::new(alloc);

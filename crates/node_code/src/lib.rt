@@ -8,6 +8,7 @@ mod exprs;
 mod put;
 mod stmts;
 mod texts;
+mod types;
 
 pub use blocks::{number_block, slots_for, slots_of};
 pub use data::{ArgNode, Block, BranchNode, Code, Node, Pool, Slots, StmtNode, Tables, WithBlock};

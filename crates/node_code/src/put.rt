@@ -3,15 +3,15 @@ ghost use Rattle.mono_syntax.specs.CastExpr.{CastExpr};
 ghost use Rattle.node_code.specs.NodeMeaning.{Trees};
 ghost use Rattle.mono_syntax.specs.declared.cast.CastBranch.{CastBranch};
 ghost use Rattle.mono_syntax.specs.CastStmt.{CastStmt};
-ghost use Rattle.node_code.specs.Numbering.{GivesExpr, GivesNode, GivesStmt, GivesStmtNode, GivesStmts, GivesBody, GivesBranches, ListsBranches};
-ghost use Rattle.node_code.specs.computed.MoreTables.{IsListed, HasText, IsTyped};
+ghost use Rattle.node_code.specs.Numbering.{GivesExpr, GivesNode, GivesStmt, GivesStmtNode, GivesStmts, GivesBody, GivesBranches};
+ghost use Rattle.node_code.specs.Numbering.{ListsBranches};
+ghost use Rattle.node_code.specs.computed.MoreTables.{IsListed, HasText};
 ghost use Rattle.node_code.specs.declared.data.Slots.{Slots};
 ghost use Rattle.node_code.specs.declared.data.Tables.{Tables};
 
 use crate::data::{ArgNode, BranchNode, Node, StmtNode, Tables};
 use crate::texts::numbered;
-use mono_list::Shared;
-use mono_syntax::{Name, Ty};
+use mono_syntax::Name;
 use sqlite_items::Items;
 use std::alloc::{AllocError, Global};
 
@@ -60,11 +60,11 @@ pub(crate) fn put_list(many: Many) -> Result<Numbered, AllocError>
 pub(crate) fn put_text(alloc: Global, text: &Name, tables: Tables) -> Result<Numbered, AllocError>
     ensures { IfOk result (HasText tables text.now) }
 {
-    let Tables { texts, types, code } = tables;
+    let Tables { texts, table, code } = tables;
     let found = texts.with_text(alloc, text)?;
     let tables = Tables {
         texts: found.texts,
-        types,
+        table,
         code,
     };
     Ok(Numbered {
@@ -116,7 +116,8 @@ pub(crate) struct Branches {
 
 /// One list of branches more.
 pub(crate) fn put_branches(list: Branches) -> Result<Numbered, AllocError>
-    ensures { (s : Slots) (a : Tables) (m : Trees) (bs : List CastBranch) → GivesBranches s a m bs list → IfOk result (ListsBranches s a m bs) }
+    ensures { (s : Slots) (a : Tables) (m : Trees) (bs : List CastBranch) → GivesBranches s a m bs list
+        → IfOk result (ListsBranches s a m bs) }
 {
     let Branches {
         branches,
@@ -124,15 +125,5 @@ pub(crate) fn put_branches(list: Branches) -> Result<Numbered, AllocError>
     } = list;
     let at = numbered(tables.code.branches.len())?;
     tables.code.branches.push(branches)?;
-    Ok(Numbered { at, tables })
-}
-
-/// One type of a write more.
-pub(crate) fn put_type(ty: &Shared<Ty>, tables: Tables) -> Result<Numbered, AllocError>
-    ensures { IfOk result (IsTyped tables ty.now) }
-{
-    let mut tables = tables;
-    let at = numbered(tables.types.len())?;
-    tables.types.push(ty.share()?)?;
     Ok(Numbered { at, tables })
 }

@@ -6,9 +6,8 @@ ghost use Rattle.node_code.specs.Slotted.{StmtSlotted, BlockSlotted, BranchesSlo
 
 use crate::data::{BranchNode, Slots, StmtNode, Tables};
 use crate::exprs::{number_args, number_expr, number_values, slot};
-use crate::put::{
-    Body, Branches, MadeStmt, Numbered, put_body, put_branches, put_stmt, put_text, put_type,
-};
+use crate::put::{Body, Branches, MadeStmt, Numbered, put_body, put_branches, put_stmt, put_text};
+use crate::types::type_at;
 use mono_list::Shared;
 use mono_syntax::{Arg, CastBranch, CastExpr, CastStmt, CastStmtKind, Name, StmtList, Ty};
 use sqlite_items::Items;
@@ -29,7 +28,8 @@ fn number_stmt(
     stmt: &CastStmt,
     tables: Tables,
 ) -> Result<Numbered, AllocError>
-    ensures { (m : Trees) → IsMeant slots.now tables m → StmtSlotted slots.now stmt.now → IfOk result (GivesStmt slots.now tables m stmt.now) }
+    ensures { (m : Trees) → IsMeant slots.now tables m → StmtSlotted tables.table.types slots.now stmt.now
+        → IfOk result (GivesStmt slots.now tables m stmt.now) }
 {
     let made = stmt_node(alloc, slots, &stmt.kind, tables)?;
     put_stmt(made)
@@ -43,7 +43,8 @@ fn stmt_node(
     kind: &CastStmtKind,
     tables: Tables,
 ) -> Result<MadeStmt, AllocError>
-    ensures { (m : Trees) → IsMeant slots.now tables m → StmtSlotted slots.now (cast_stmt_of kind.now) → IfOk result (GivesStmtNode slots.now tables m (cast_stmt_of kind.now)) }
+    ensures { (m : Trees) → IsMeant slots.now tables m → StmtSlotted tables.table.types slots.now (cast_stmt_of kind.now)
+        → IfOk result (GivesStmtNode slots.now tables m (cast_stmt_of kind.now)) }
 {
     match kind {
         CastStmtKind::Pass => Ok(MadeStmt {
@@ -73,12 +74,12 @@ fn stmt_node(
             })
         }
         CastStmtKind::Write(member, write, is, object, field, value) => {
-            let is = put_type(is, tables)?;
-            let object = number_expr(alloc, slots, object, is.tables)?;
+            let is = type_at(&tables.table, is);
+            let object = number_expr(alloc, slots, object, tables)?;
             let field = put_text(alloc, field, object.tables)?;
             let value = number_expr(alloc, slots, value, field.tables)?;
             Ok(MadeStmt {
-                node: StmtNode::Write(*member, *write, is.at, object.at, field.at, value.at),
+                node: StmtNode::Write(*member, *write, is, object.at, field.at, value.at),
                 tables: value.tables,
             })
         }
@@ -125,7 +126,8 @@ pub(crate) fn number_body(
     list: &[CastStmt],
     tables: Tables,
 ) -> Result<Numbered, AllocError>
-    ensures { (m : Trees) → IsMeant slots.now tables m → BlockSlotted slots.now (cast_block list.now) → IfOk result (GivesBody slots.now tables m list.now) }
+    ensures { (m : Trees) → IsMeant slots.now tables m → BlockSlotted tables.table.types slots.now (cast_block list.now)
+        → IfOk result (GivesBody slots.now tables m list.now) }
 {
     let body = body_stmts(alloc, slots, list, tables)?;
     put_body(body)
@@ -140,7 +142,8 @@ fn body_stmts(
     list: &[CastStmt],
     tables: Tables,
 ) -> Result<Body, AllocError>
-    ensures { (m : Trees) → IsMeant slots.now tables m → BlockSlotted slots.now (cast_block list.now) → IfOk result (GivesStmts slots.now tables m list.now) }
+    ensures { (m : Trees) → IsMeant slots.now tables m → BlockSlotted tables.table.types slots.now (cast_block list.now)
+        → IfOk result (GivesStmts slots.now tables m list.now) }
 {
     let mut tables = tables;
     let mut stmts = Items::new(alloc);
@@ -160,7 +163,8 @@ fn number_else(
     last: &Option<Shared<Items<CastStmt>>>,
     tables: Tables,
 ) -> Result<Else, AllocError>
-    ensures { (m : Trees) → IsMeant slots.now tables m → ElseSlotted slots.now (cast_else_block last.now) → IfOk result (GivesElse slots.now tables m last.now) }
+    ensures { (m : Trees) → IsMeant slots.now tables m → ElseSlotted tables.table.types slots.now (cast_else_block last.now)
+        → IfOk result (GivesElse slots.now tables m last.now) }
 {
     match last {
         Some(body) => {
@@ -182,7 +186,8 @@ fn number_branches(
     list: &[CastBranch],
     tables: Tables,
 ) -> Result<Numbered, AllocError>
-    ensures { (m : Trees) → IsMeant slots.now tables m → BranchesSlotted slots.now (cast_branches list.now) → IfOk result (ListsBranches slots.now tables m list.now) }
+    ensures { (m : Trees) → IsMeant slots.now tables m → BranchesSlotted tables.table.types slots.now (cast_branches list.now)
+        → IfOk result (ListsBranches slots.now tables m list.now) }
 {
     let branches = branch_nodes(alloc, slots, list, tables)?;
     put_branches(branches)
@@ -197,7 +202,8 @@ fn branch_nodes(
     list: &[CastBranch],
     tables: Tables,
 ) -> Result<Branches, AllocError>
-    ensures { (m : Trees) → IsMeant slots.now tables m → BranchesSlotted slots.now (cast_branches list.now) → IfOk result (GivesBranches slots.now tables m list.now) }
+    ensures { (m : Trees) → IsMeant slots.now tables m → BranchesSlotted tables.table.types slots.now (cast_branches list.now)
+        → IfOk result (GivesBranches slots.now tables m list.now) }
 {
     let mut tables = tables;
     let mut branches = Items::new(alloc);

@@ -3,19 +3,20 @@ ghost use Rattle.mono_syntax.specs.declared.cast.CastFunction.{CastFunction};
 ghost use Rattle.program_code.specs.SameScript.{AddsFunction, AddsFunctions, IsSlottedFunction};
 
 use crate::data::FunctionCode;
+use crate::types::type_no;
 use mono_syntax::CastFunction;
 use node_code::{Pool, number_block, slots_for, slots_of};
 use sqlite_items::Items;
 use std::alloc::{AllocError, Global};
 
-/// A function by numbers, and the texts and types of the program.
+/// A function by numbers, and the texts and the table of the program.
 #[derive(Drop)]
 pub(crate) struct WithFunction {
     pub function: FunctionCode,
     pub pool: Pool,
 }
 
-/// Functions by numbers, and the texts and types of the program.
+/// Functions by numbers, and the texts and the table of the program.
 #[derive(Drop)]
 pub(crate) struct WithFunctions {
     pub functions: Items<FunctionCode>,
@@ -28,14 +29,17 @@ fn number_function(
     function: &CastFunction,
     pool: Pool,
 ) -> Result<WithFunction, AllocError>
-    ensures { IsSlottedFunction function.now → IfOk result (AddsFunction pool function.now) }
+    requires { IsSlottedFunction pool.table.types function.now }
+    ensures { IfOk result (AddsFunction pool function.now) }
 {
+    let ty = type_no(&pool.table, &function.ty);
     let slots = slots_of(alloc, &function.block)?;
     let params = slots_for(alloc, &slots.names, function.params.as_slice())?;
     let with = number_block(alloc, &slots, &function.block, pool)?;
     Ok(WithFunction {
         function: FunctionCode {
             params,
+            ty,
             block: with.block,
             falls: function.falls,
         },
@@ -49,7 +53,8 @@ pub(crate) fn number_functions(
     functions: &[CastFunction],
     pool: Pool,
 ) -> Result<WithFunctions, AllocError>
-    ensures { ((f : CastFunction) → Contains functions.now f → IsSlottedFunction f) → IfOk result (AddsFunctions pool functions.now) }
+    requires { (f : CastFunction) → Contains functions.now f → IsSlottedFunction pool.table.types f }
+    ensures { IfOk result (AddsFunctions pool functions.now) }
 {
     let mut codes = Items::new(alloc);
     let mut pool = pool;

@@ -1,13 +1,16 @@
 //! A script with its casts by numbers, so that a machine needs no tree, no name and no text to take a step. The script comes in, well
-//! typed, and what comes out are the blocks of its functions and its main block, its classes, texts and sites, each by number. The
-//! contract says that they are the same script.
+//! typed, with the table of its types, and what comes out are the blocks of its functions and its main block, its classes, types, texts
+//! and sites, each by number. The contract says that they are the same script.
 #![tactic(auto)]
 
 mod classes;
 mod count;
 mod data;
 mod functions;
+mod looks;
 mod script;
+mod types;
 
-pub use data::{ClassCode, FunctionCode, ScriptCode};
-pub use script::number_script;
+pub use count::{MOST_CLASSES, MOST_FUNCTIONS, MOST_SITES};
+pub use data::{ClassCode, FunctionCode, Program};
+pub use script::number;

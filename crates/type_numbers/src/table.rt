@@ -72,6 +72,14 @@ impl TypeTable {
         })
     }
 
+    /// How many types have numbers.
+    pub fn count(&self) -> usize
+        ensures count { result ≡ length self.now.types }
+        ensures few { result ≤ 4095 }
+    {
+        self.set.as_slice().len()
+    }
+
     /// The number of a type; None where the list hasn't it.
     pub fn number_of(&self, a: &Ty) -> Option<TypeNo>
         ensures found { IfSome result (λ n. Names self.now.types n a.now) }
@@ -81,6 +89,13 @@ impl TypeTable {
             Some(at) => Some(TypeNo(at as u16)),
             None => None,
         }
+    }
+
+    /// The types in the order of their numbers.
+    pub fn as_slice(&self) -> &[Ty]
+        ensures { result.now ≡ self.now.types }
+    {
+        self.set.as_slice()
     }
 
     /// The type of a number.

@@ -43,6 +43,8 @@ impl Case {
             "script" => push_script_line(&mut self.script, value)?,
             "bytes" => self.push_bytes(value)?,
             "line feeds" => self.push_line_feeds(value)?,
+            "rows" => self.push_rows(alloc, value)?,
+            "group" => self.push_group(alloc, value)?,
             "out" => push_line(&mut self.out, value)?,
             "out part" => self.out.push_str(value)?,
             "err" => push_line(&mut self.err, value)?,
@@ -59,6 +61,39 @@ impl Case {
         };
         for _i in 0..count {
             self.script.push(b'\n')?;
+        }
+        Ok(())
+    }
+
+    /// Takes in rows of the script: a count, ` of `, and the text that stands in each, with `#` for its number from 1 and `/` for a line's end.
+    fn push_rows(&mut self, alloc: Global, value: &str) -> Result<(), AllocError> {
+        let Some((count, text)) = value.split_once(" of ") else {
+            self.is_read = false;
+            return Ok(());
+        };
+        let Ok(count) = count.parse::<u16>() else {
+            self.is_read = false;
+            return Ok(());
+        };
+        for number in 0..count {
+            push_row(alloc, &mut self.script, text, number as u32 + 1)?;
+        }
+        Ok(())
+    }
+
+    /// Takes in a group of classes, by its name and their count: all have the same fields, as many as there are classes, and in each class
+    /// another one is `int` and the others are `Dyn`.
+    fn push_group(&mut self, alloc: Global, value: &str) -> Result<(), AllocError> {
+        let Some((name, count)) = value.split_once(' ') else {
+            self.is_read = false;
+            return Ok(());
+        };
+        let Ok(count) = count.parse::<u16>() else {
+            self.is_read = false;
+            return Ok(());
+        };
+        for class in 0..count {
+            push_class(alloc, &mut self.script, name, class, count)?;
         }
         Ok(())
     }
@@ -99,5 +134,42 @@ fn push_line(text: &mut String, line: &str) -> Result<(), AllocError> {
 fn push_script_line(script: &mut Vec<u8>, line: &str) -> Result<(), AllocError> {
     script.extend_from_slice(line.as_bytes())?;
     script.push(b'\n')?;
+    Ok(())
+}
+
+/// A row of this number.
+fn push_row(
+    alloc: Global,
+    script: &mut Vec<u8>,
+    text: &str,
+    number: u32,
+) -> Result<(), AllocError> {
+    let digits = number.to_string(alloc)?;
+    for byte in text.as_bytes() {
+        match *byte {
+            b'#' => script.extend_from_slice(digits.as_bytes())?,
+            b'/' => script.push(b'\n')?,
+            byte => script.push(byte)?,
+        }
+    }
+    script.push(b'\n')?;
+    Ok(())
+}
+
+/// The class of this number among so many of a group.
+fn push_class(
+    alloc: Global,
+    script: &mut Vec<u8>,
+    name: &str,
+    class: u16,
+    count: u16,
+) -> Result<(), AllocError> {
+    let head = format!(in alloc; "class G{name}{class}:")?;
+    push_script_line(script, head.as_str())?;
+    for field in 0..count {
+        let ty = if field == class { "int" } else { "Dyn" };
+        let line = format!(in alloc; "    {name}{field}: {ty}")?;
+        push_script_line(script, line.as_str())?;
+    }
     Ok(())
 }

@@ -1,6 +1,5 @@
 -- Computed: what one call adds to the tables.
 use Rattle.std.specs.Prelude.{◌≡◌, ℕ, List, [], ◌∷◌, ◌++◌, length}
-use Rattle.mono_syntax.specs.Ty.{Ty}
 use Rattle.node_code.specs.Places.{At, Keeps}
 use Rattle.node_code.specs.declared.data.Code.{Code}
 use Rattle.node_code.specs.declared.data.Tables.{Tables}
@@ -18,12 +17,8 @@ IsListed m r = r ≡ record {
 pub record HasText (a : Tables) (x : List ℕ) (r : Numbered) : Type 0 where
   pub at : At (r.tables).texts r.at x
   pub keeps : Keeps a.texts (r.tables).texts
-  pub types : (r.tables).types ≡ a.types
+  pub table : (r.tables).table ≡ a.table
   pub code : (r.tables).code ≡ a.code
-
--- the type stands behind the others
-abbrev pub IsTyped : Tables → Ty → Numbered → Type 0
-IsTyped a t r = r ≡ record { at = length a.types; tables = record a { types = a.types ++ t ∷ [] } }
 
 -- no code
 abbrev pub no_code : Code

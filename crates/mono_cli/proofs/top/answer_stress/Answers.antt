@@ -8,7 +8,7 @@ use Rattle.mono_cli.proofs.top.answer_stress.Goals as goal
 pub returns-then-len-gt-LIMIT : goal.returns-then-len-gt-LIMIT
 returns-then-len-gt-LIMIT g c =
     let long : most_bytes < length (string_bytes c.in-Ok.text) = search rules in
-    long_made _ (stress_text c.args.tasks) (subst (λ (t : List ℕ). most_bytes < length t) c.in-Ok.ensures long) _ _ _ _ _ _ _ _ _ c.show_refusal.ensures
+    long_made _ (stress_text c.args.tasks) (subst (λ (t : List ℕ). most_bytes < length t) c.in-Ok.ensures long) _ _ _ c.put_refusal.ensures
 
 pub returns : goal.returns
-returns g c = made_is _ c.as_bytes.result.now (stress_text c.args.tasks) (c.as_bytes.ensures.value ∙ c.in-Ok.ensures) _ _ _ _ _ _ _ _ _ c.show_text.ensures
+returns g c = made_is _ c.as_bytes.result.now (stress_text c.args.tasks) (c.as_bytes.ensures.value ∙ c.in-Ok.ensures) _ _ _ c.answer_text.ensures

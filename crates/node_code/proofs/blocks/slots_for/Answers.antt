@@ -12,7 +12,8 @@ loop-name-preserved c = λ u.
     let i = c.loop-name.name-index in
     let x = c.name-item.result in
     let here = c.in_ok-slot.ensures (name_slotted names xs i x c.loop-name-test.true c.name-item.is u) in
-    let step : take (i + 1) xs ≡ take i xs ++ x ∷ [] = take_more xs i x c.loop-name-test.true ∙ ap (λ y. take i xs ++ y ∷ []) (sym c.name-item.is) in
+    let step : take (i + 1) xs ≡ take i xs ++ x ∷ [] = take_more xs i x c.loop-name-test.true
+    ∙ ap (λ y. take i xs ++ y ∷ []) (sym c.name-item.is) in
     let more = each_more (At names) c.loop-name.slots (take i xs) c.in_ok-slot.field-0 x (c.loop-name.invariant u) here in
     subst (λ (l : List (List ℕ)). Each (At names) c.push.new.self l) (sym step)
     (subst (λ (l : List ℕ). Each (At names) l (take i xs ++ x ∷ [])) (sym (c.in_ok-push.ensures).ok) more)

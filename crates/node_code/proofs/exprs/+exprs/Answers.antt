@@ -11,7 +11,8 @@ use Rattle.node_code.specs.Slotted.{IsSlotted, AreSlotted, ArgsSlotted}
 use Rattle.node_code.specs.declared.data.ArgNode.{ArgNode}
 use Rattle.node_code.specs.declared.data.Slots.{Slots}
 use Rattle.node_code.specs.declared.put.Many.{Many}
-use Rattle.node_code.proofs.Growing.{args_kept, args_listed_ok, args_more, gives_on, none_yet, texted, values_kept, values_listed_ok, values_more}
+use Rattle.node_code.proofs.Growing.{args_kept, args_listed_ok, args_more, gives_on, none_yet, texted, values_kept, values_listed_ok}
+use Rattle.node_code.proofs.Growing.{values_more}
 use Rattle.node_code.proofs.Slotting.{arg_slotted, value_slotted}
 use Rattle.node_code.proofs.exprs.+exprs.Goals as goal
 
@@ -21,11 +22,13 @@ slotted s k l e u = subst (λ (z : CastExprKind). IsSlotted s (cast_expr_of z)) 
 
 pub number_values-returns : goal.number_values-returns
 number_values-returns t c = λ m ok u.
-    values_listed_ok c.args.slots.now c.args.tables m c.args.list.now c.in_ok-many.many c.put_list.result (c.in_ok-many.ensures m ok u) c.put_list.ensures
+    values_listed_ok c.args.slots.now c.args.tables m c.args.list.now c.in_ok-many.many c.put_list.result
+    (c.in_ok-many.ensures m ok u) c.put_list.ensures
 
 pub number_args-returns : goal.number_args-returns
 number_args-returns t c = λ m ok u.
-    args_listed_ok c.args.slots.now c.args.tables m c.args.list.now c.in_ok-many.many c.put_list.result (c.in_ok-many.ensures m ok u) c.put_list.ensures
+    args_listed_ok c.args.slots.now c.args.tables m c.args.list.now c.in_ok-many.many c.put_list.result
+    (c.in_ok-many.ensures m ok u) c.put_list.ensures
 
 pub node_of-returns-in_ok-t-in-Text : goal.node_of-returns-in_ok-t-in-Text
 node_of-returns-in_ok-t-in-Text t c = λ m ok u.
@@ -60,9 +63,15 @@ pub node_of-returns-in_ok-field-in-Read : goal.node_of-returns-in_ok-field-in-Re
 node_of-returns-in_ok-field-in-Read t c = λ m ok u.
     let v = slotted c.args.slots.now _ _ c.in-Read.is u in
     let a = c.in_ok-object-in-Read.ensures m ok v in
-    let x = texted c.args.slots.now c.in_ok-object-in-Read.object.tables a.trees c.in-Read.field c.in_ok-field-in-Read.field a.meant c.in_ok-field-in-Read.ensures in
-    gives_on _ _ _ _ _ _ _ _ a x
-    (c.in-Read.object, c.in-Read.field, (x.grows).exprs c.in_ok-object-in-Read.object.at c.in-Read.object a.here, x.here, ap cast_expr_of c.in-Read.is)
+    let x = texted c.args.slots.now c.in_ok-object-in-Read.object.tables a.trees c.in-Read.field c.in_ok-field-in-Read.field a.meant
+    c.in_ok-field-in-Read.ensures in
+    gives_on _ _ _ _ _ _ _ _ a x (
+      c.in-Read.object,
+      c.in-Read.field,
+      (x.grows).exprs c.in_ok-object-in-Read.object.at c.in-Read.object a.here,
+      x.here,
+      ap cast_expr_of c.in-Read.is,
+    )
 
 pub node_of-returns-in_ok-list-in-Call : goal.node_of-returns-in_ok-list-in-Call
 node_of-returns-in_ok-list-in-Call t c = λ m ok u.
@@ -89,10 +98,13 @@ value_nodes-loop-e-preserved t c = λ m ok u.
     let x = c.e-item.result in
     let before = c.loop-e.invariant m ok u in
     let n = c.in_ok-n.ensures before.trees before.meant (value_slotted s xs i x c.loop-e-test.true c.e-item.is u) in
-    let step : take (i + 1) xs ≡ take i xs ++ x ∷ [] = take_more xs i x c.loop-e-test.true ∙ ap (λ y. take i xs ++ y ∷ []) (sym c.e-item.is) in
+    let step : take (i + 1) xs ≡ take i xs ++ x ∷ [] = take_more xs i x c.loop-e-test.true
+    ∙ ap (λ y. take i xs ++ y ∷ []) (sym c.e-item.is) in
     let more = values_more s c.args.tables c.loop-e.tables m c.loop-e.nodes (take i xs) x c.in_ok-n.n before n in
-    subst (λ (l : List CastExpr). GivesValues s c.args.tables m l (record { nodes = c.push.new.self; tables = c.in_ok-n.n.tables })) (sym step)
-    (subst (λ (ns : List ArgNode). GivesValues s c.args.tables m (take i xs ++ x ∷ []) (record { nodes = ns; tables = c.in_ok-n.n.tables })) (sym (c.in_ok-push.ensures).ok) more)
+    subst (λ (l : List CastExpr). GivesValues s c.args.tables m l (record { nodes = c.push.new.self; tables = c.in_ok-n.n.tables }))
+    (sym step)
+    (subst (λ (ns : List ArgNode). GivesValues s c.args.tables m (take i xs ++ x ∷ [])
+    (record { nodes = ns; tables = c.in_ok-n.n.tables })) (sym (c.in_ok-push.ensures).ok) more)
 
 pub arg_nodes-loop-arg-preserved : goal.arg_nodes-loop-arg-preserved
 arg_nodes-loop-arg-preserved t c = λ m ok u.
@@ -102,14 +114,17 @@ arg_nodes-loop-arg-preserved t c = λ m ok u.
     let x = c.arg-item.result in
     let before = c.loop-arg.invariant m ok u in
     let n = c.in_ok-n.ensures before.trees before.meant (arg_slotted s xs i x c.loop-arg-test.true c.arg-item.is u) in
-    let step : take (i + 1) xs ≡ take i xs ++ x ∷ [] = take_more xs i x c.loop-arg-test.true ∙ ap (λ y. take i xs ++ y ∷ []) (sym c.arg-item.is) in
+    let step : take (i + 1) xs ≡ take i xs ++ x ∷ [] = take_more xs i x c.loop-arg-test.true
+    ∙ ap (λ y. take i xs ++ y ∷ []) (sym c.arg-item.is) in
     let more = args_more s c.args.tables c.loop-arg.tables m c.loop-arg.nodes (take i xs) x c.in_ok-n.n before n in
     subst (λ (l : List Arg). GivesArgs s c.args.tables m l (record { nodes = c.push.new.self; tables = c.in_ok-n.n.tables })) (sym step)
-    (subst (λ (ns : List ArgNode). GivesArgs s c.args.tables m (take i xs ++ x ∷ []) (record { nodes = ns; tables = c.in_ok-n.n.tables })) (sym (c.in_ok-push.ensures).ok) more)
+    (subst (λ (ns : List ArgNode). GivesArgs s c.args.tables m (take i xs ++ x ∷ []) (record { nodes = ns; tables = c.in_ok-n.n.tables }))
+    (sym (c.in_ok-push.ensures).ok) more)
 
 pub value_nodes-returns : goal.value_nodes-returns
 value_nodes-returns t c = λ m ok u.
-    subst (λ (l : List CastExpr). GivesValues c.args.slots.now c.args.tables m l (record { nodes = c.loop-e.nodes; tables = c.loop-e.tables }))
+    subst (λ (l : List CastExpr). GivesValues c.args.slots.now c.args.tables m l
+    (record { nodes = c.loop-e.nodes; tables = c.loop-e.tables }))
     (take_all c.loop-e.e-index c.args.list.now c.loop-e-test.false) (c.loop-e.invariant m ok u)
 
 pub arg_nodes-returns : goal.arg_nodes-returns

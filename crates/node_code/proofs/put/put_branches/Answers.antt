@@ -9,6 +9,8 @@ pub returns : goal.returns
 returns c = λ s a m bs h.
     let t : Tables = c.args.list.tables in
     let at : c.in_ok-at.at ≡ length (t.code).branches = c.in_ok-at.ensures ∙ c.len.ensures in
-    subst (λ (z : List (List BranchNode)). ListsBranches s a m bs (record { at = c.in_ok-at.at; tables = with_branches t z })) (sym c.in_ok-push.ensures.ok)
-    (subst (λ (k : ℕ). ListsBranches s a m bs (record { at = k; tables = with_branches t ((t.code).branches ++ c.args.list.branches ∷ []) })) (sym at)
+    subst (λ (z : List (List BranchNode)). ListsBranches s a m bs (record { at = c.in_ok-at.at; tables = with_branches t z }))
+    (sym c.in_ok-push.ensures.ok)
+    (subst (λ (k : ℕ). ListsBranches s a m bs
+    (record { at = k; tables = with_branches t ((t.code).branches ++ c.args.list.branches ∷ []) })) (sym at)
     (put_branches s a t m c.args.list.branches bs h))

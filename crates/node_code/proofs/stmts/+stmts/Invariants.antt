@@ -30,10 +30,10 @@ decreases-number_branches l = 5 * cast_branches_size (cast_branches l.list.now) 
 -- those so far have their numbers
 abbrev pub invariant-body_stmts-loop-stmt : goal.invariant-body_stmts-loop-stmt
 invariant-body_stmts-loop-stmt l =
-    (m : Trees) → IsMeant l.slots l.fn.tables m → BlockSlotted l.slots (cast_block l.list)
+    (m : Trees) → IsMeant l.slots l.fn.tables m → BlockSlotted l.fn.tables.table.types l.slots (cast_block l.list)
     → GivesStmts l.slots l.fn.tables m (take l.stmt-index l.list) (record { stmts = l.stmts; tables = l.tables })
 
 abbrev pub invariant-branch_nodes-loop-branch : goal.invariant-branch_nodes-loop-branch
 invariant-branch_nodes-loop-branch l =
-    (m : Trees) → IsMeant l.slots l.fn.tables m → BranchesSlotted l.slots (cast_branches l.list)
+    (m : Trees) → IsMeant l.slots l.fn.tables m → BranchesSlotted l.fn.tables.table.types l.slots (cast_branches l.list)
     → GivesBranches l.slots l.fn.tables m (take l.branch-index l.list) (record { branches = l.branches; tables = l.tables })

@@ -1,3 +1,0 @@
-x: Dyn = 1
-y: int = x
-print(y + 2)

@@ -1,0 +1,4 @@
+-- Rules.
+
+-- what an obligation decides on the word of its cell
+pub mod Demands
